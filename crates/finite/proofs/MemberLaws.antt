@@ -84,6 +84,14 @@ member-at [] q l = absurd (omega arith)
 member-at (y ∷ ys) zero l = rw (eq-eqb y y refl)
 member-at (y ∷ ys) (suc q) l = or-second (eqb (getD ys q 0) y) (member (getD ys q 0) ys) (member-at ys q (le-of-suc-le-suc l))
 
+-- a test over a list, entry by entry
+module _ (p : ℕ → Bool) (xs : List ℕ) where
+  pub all-by-index : ((k : ℕ) → k < length xs → p (getD xs k 0) ≡ true) → all p xs ≡ true
+  all-by-index h = all-of p xs (λ x m. let r = member-where x xs m in ap p (sym (r .2)) ∙ h (r .0) (r .1))
+
+  pub all-not-at : (k : ℕ) → k < length xs → p (getD xs k 0) ≡ false → all p xs ≡ false
+  all-not-at k l = all-not p xs (getD xs k 0) (member-at xs k l)
+
 -- the same of the first p entries
 module _ (xs : List ℕ) (p : ℕ) (l : p ≤ length xs) where
   pub take-where : (x : ℕ) → member x (take p xs) ≡ true → (q : ℕ) × (q < p) × (getD xs q 0 ≡ x)
