@@ -1,0 +1,115 @@
+-- Laws of appending, for a chain of appends and for the text that it leaves, and of numbers in decimal.
+use Prim.Native.Nat.{ℕ, zero, suc, _+_, _/_, _%_, _^_, _≤_, _<_}
+use mathlib.Core.Path.{_≡_, refl, sym, ap, _∙_}
+use mathlib.Core.Bool.{cond}
+use mathlib.Core.List.{List, [], _∷_, _++_, append-nil, append-assoc}
+use native.Mathlib.Nat.{pow-suc}
+use native.Mathlib.Omega.{arith}
+use lib.Dec.{ltb}
+use lib.IntN.{ℤ, pos, negsuc}
+use lib.ListN.{length, take, drop, set, length-append, length-set}
+use lib.Seq.{take-at}
+use borrow.Author.Tests.{ltb-true, ltb-false, lt-ltb, le-ltb}
+use mir.Syntax.{w32}
+use mir.Val.{SFits}
+use Rattle.finite.proofs.Tests.{by-test}
+use Rattle.finite.proofs.ListLaws.{write-more, write-length}
+use Rattle.text.specs.Text.{decimalBy, decimal, integer, Holds, Appends}
+
+-- ---- appending
+
+-- nothing
+pub append-none : (xs : List ℕ) (at : ℕ) → Appends [] xs xs at at
+append-none xs at =
+    record {
+      same-length = refl;
+      inside = λ h. h;
+      more = λ {text} h f. record { contents = rw (append-nil text) (h .contents); count = rw (append-nil text) (h .count) };
+    }
+
+-- one word after the other
+pub append-then : {u v a b c : List ℕ} {at m r : ℕ} → Appends u a b at m → Appends v b c m r → Appends (u ++ v) a c at r
+append-then {u} {v} p q =
+    record {
+      same-length = q .same-length ∙ p .same-length;
+      inside = λ h. omega (arith, q .inside (omega (arith, p .inside h, p .same-length)), p .same-length);
+      more = λ {text} h f.
+          rw (← append-assoc text u v)
+          (q .more (p .more h (omega (arith, length-append u v))) (omega (arith, length-append u v, length-append text u)));
+    }
+
+-- one byte, stored
+pub append-byte : (xs : List ℕ) (at b : ℕ) → at < length xs → Appends (b ∷ []) xs (set xs at b) at (at + 1)
+append-byte xs at b l =
+    record {
+      same-length = length-set xs at b;
+      inside = λ h. omega arith;
+      more = λ {text} {old} h f.
+          let room : length text < length old = omega arith in
+          record {
+            contents = rw (h .contents, h .count, length-append) (write-more text old (length text) b refl room);
+            count = rw length-append (omega (arith, h .count));
+          };
+    }
+
+-- one byte, where there is no room
+pub append-full : (xs : List ℕ) (at b : ℕ) → length xs ≤ at → Appends (b ∷ []) xs xs at at
+append-full xs at b l =
+    record {
+      same-length = refl;
+      inside = λ h. h;
+      more = λ {text} {old} h f.
+          let same : length xs ≡ length old = ap length (h .contents) ∙ write-length text old (length text) refl (omega arith) in
+          absurd (omega (arith, h .count));
+    }
+
+-- ---- the text that appends leave
+
+-- before the first append the text is empty
+pub holds-none : (old : List ℕ) → Holds [] old old 0
+holds-none old = record { contents = refl; count = refl }
+
+-- what is printed of the buffer is the text
+pub holds-text : {text old out : List ℕ} {at : ℕ} → Holds text old out at → take at out ≡ text
+holds-text {text} {old} h = rw (h .contents) (take-at text (drop (length text) old) _ (sym (h .count)))
+
+-- ---- numbers in decimal
+
+-- a digit takes no turn
+one-digit : (turns n : ℕ) → n < 10 → decimalBy turns n ≡ (48 + n) ∷ []
+unfolding decimalBy
+one-digit zero n l = refl
+one-digit (suc turns) n l = rw (lt-ltb n 10 l)
+
+-- as many turns as the number are enough
+enough : (s t n : ℕ) → n ≤ s → n ≤ t → decimalBy s n ≡ decimalBy t n
+unfolding decimalBy
+enough zero t n l k = sym (one-digit t n (omega arith))
+enough (suc s) zero n l k = one-digit (suc s) n (omega arith)
+enough (suc s) (suc t) n l k = rw (enough s t (n / 10) (omega arith) (omega arith))
+
+pub decimal-is : (n : ℕ) → decimal n ≡ cond (ltb n 10) ((48 + n) ∷ []) (decimal (n / 10) ++ ((48 + n % 10) ∷ []))
+unfolding decimal decimalBy
+decimal-is zero = refl
+decimal-is (suc n) = rw (enough n (suc n / 10) (suc n / 10) (omega arith) (omega arith))
+
+pub decimal-digit : (n : ℕ) → n < 10 → decimal n ≡ (48 + n) ∷ []
+decimal-digit n l = decimal-is n ∙ rw (lt-ltb n 10 l)
+
+pub decimal-more : (n : ℕ) → 10 ≤ n → decimal n ≡ decimal (n / 10) ++ ((48 + n % 10) ∷ [])
+decimal-more n l = decimal-is n ∙ rw (le-ltb n 10 l)
+
+-- a number below 10 to the power of k + 1 has k + 1 digits at most
+pub decimal-length : (k n : ℕ) → n < 10 ^ suc k → length (decimal n) ≤ suc k
+decimal-length zero n l = rw (decimal-digit n l) (omega arith)
+decimal-length (suc k) n l =
+    by-test (ltb n 10)
+    (λ t. rw (decimal-digit n (ltb-true n 10 t)) (omega arith))
+    (λ f. rw (decimal-more n (ltb-false n 10 f), length-append)
+    (omega (arith, decimal-length k (n / 10) (omega (arith, pow-suc 10 (suc k))))))
+
+-- a number of 32 bits with a sign has 11 characters at most
+pub integer-length : (v : ℤ) → SFits w32 v → length (integer v) ≤ 11
+unfolding integer
+integer-length (pos n) f = omega (arith, decimal-length 9 n (omega arith))
+integer-length (negsuc n) f = omega (arith, decimal-length 9 (suc n) (omega arith))

@@ -1,0 +1,2 @@
+-- The definitions: numbers in decimal, and what an append is.
+pub mod Text
