@@ -1,0 +1,6 @@
+-- Laws of the definitions in specs/, and those that the functions' proofs share.
+pub mod GuardLaws
+pub mod RankLaws
+pub mod TypeLaws
+pub mod CheckLaws
+mod FunctionLaws

@@ -1,0 +1,39 @@
+//! The commands.
+
+use reference::{examples, files, text, with_big_stack};
+use std::io::{Read, Write};
+use std::process::ExitCode;
+
+fn main() -> ExitCode {
+    with_big_stack(|| {
+        let arguments: Vec<String> = std::env::args().skip(1).collect();
+        let words: Vec<&str> = arguments.iter().map(String::as_str).collect();
+        match words[..] {
+            ["sheetrun"] => print(&text::sheetrun(&read_all())),
+            ["sheetop"] => print(&text::sheetop(&read_all())),
+            ["write", dir] => files::write(dir),
+            ["compare", dir] => files::compare(dir),
+            ["histogram"] => files::histogram(),
+            ["check-examples"] => examples::report(),
+            _ => {
+                eprintln!("commands: sheetrun, sheetop, write DIR, compare DIR, histogram, check-examples");
+                ExitCode::from(2)
+            }
+        }
+    })
+}
+
+fn read_all() -> Vec<u8> {
+    let mut input = Vec::new();
+    std::io::stdin()
+        .read_to_end(&mut input)
+        .expect("the input can be read");
+    input
+}
+
+fn print(text: &str) -> ExitCode {
+    std::io::stdout()
+        .write_all(text.as_bytes())
+        .expect("the output can be written");
+    ExitCode::SUCCESS
+}
