@@ -1,0 +1,5 @@
+-- Laws of a sheet's needs and orders, and those that the functions' proofs share.
+pub mod NeedsLaws
+pub mod GroundLaws
+pub mod OrderLaws
+mod FunctionLaws
