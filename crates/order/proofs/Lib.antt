@@ -2,4 +2,4 @@
 pub mod NeedsLaws
 pub mod GroundLaws
 pub mod OrderLaws
-mod FunctionLaws
+pub mod FunctionLaws

@@ -1,5 +1,5 @@
 -- Needs by their place in the list, for a loop over them, and the ways in which one node needs another.
-use Prim.Native.Nat.{ℕ, suc, _≤_, _<_}
+use Prim.Native.Nat.{ℕ, suc, _<_}
 use mathlib.Core.Path.{_≡_, refl, sym, _∙_}
 use mathlib.Core.Bool.{true, false}
 use mathlib.Core.List.{List, [], _∷_}
@@ -10,8 +10,6 @@ use Rattle.finite.proofs.Tests.{not-both}
 use Rattle.finite.proofs.MemberLaws.{member-where}
 use Rattle.finite.proofs.GatherLaws.{length-gather-all, gather-all-at}
 use Rattle.number.specs.Operators.{operands}
-use Rattle.number.specs.declared.Operator.{Operator}
-use Rattle.number.specs.declared.Operator.the-variants.{Not, And, Or, Xor, If, Eq, Lt, Le, Add, Sub, Mul, Div, Neg, Mod}
 use Rattle.sheet.specs.Bytes.{nodes, kindAt, argument, arity, arityAt, isVar, isFby, operand, lies}
 use Rattle.sheet.specs.Form.{Formed}
 use Rattle.sheet.specs.declared.Kind.{Kind}
@@ -72,38 +70,6 @@ module _ (s : List ℕ) (i : ℕ) where
       let r = member-where j (needs s i) m in
       let l : r .0 < needCount (kindAt s i) = omega (arith, r .1, needs-count (kindAt s i)) in
       (r .0, l, sym (need-at (kindAt s i) (r .0) l) ∙ r .2)
-
-operands-most : (o : Operator) → operands o ≤ 3
-operands-most Not = omega arith
-operands-most And = omega arith
-operands-most Or = omega arith
-operands-most Xor = omega arith
-operands-most If = omega arith
-operands-most Eq = omega arith
-operands-most Lt = omega arith
-operands-most Le = omega arith
-operands-most Add = omega arith
-operands-most Sub = omega arith
-operands-most Mul = omega arith
-operands-most Div = omega arith
-operands-most Neg = omega arith
-operands-most Mod = omega arith
-
-count-most : (kind : Kind) → needCount kind ≤ 3
-count-most (Const t) = omega arith
-count-most Input = omega arith
-count-most Var = omega arith
-count-most (Op o) = operands-most o
-count-most (Fby t) = omega arith
-count-most (Rec t) = omega arith
-count-most Let = omega arith
-count-most Check = omega arith
-count-most Contract = omega arith
-count-most Unknown = omega arith
-
-pub needs-most : (s : List ℕ) (i : ℕ) → length (needs s i) ≤ 3
-unfolding needs
-needs-most s i = omega (arith, needs-count s i (kindAt s i), count-most (kindAt s i))
 
 -- ---- the ways in which node i needs node j
 

@@ -1,5 +1,5 @@
 -- Right orders and the house order of a sheet: rule 15 passes exactly the right orders, a sound sheet has one, its house order is one, and at each
--- position has the lowest node that may stand there. And what a refusal of Check says of the rules.
+-- position has the lowest node that may stand there.
 use Prim.Native.Nat.{ℕ, _≤_, _<_}
 use mathlib.Core.Path.{_≡_, sym}
 use mathlib.Core.Logic.{_↔_}
@@ -15,9 +15,9 @@ use Rattle.table.specs.Order.{fit, misplaced, next}
 use Rattle.table.proofs.OrderLaws.{right-exactly, right-fits, fit-under, fit-new, fit-needs, fit-of}
 use Rattle.table.proofs.HouseLaws as table
 use Rattle.sheet.specs.Bytes.{nodes}
-use Rattle.sheet.specs.Ruling.{Ruling, passed, refused, turned, answer}
+use Rattle.sheet.specs.Ruling.{passed}
 use Rattle.sheet.proofs.RulingLaws.{each-passed}
-use Rattle.rules.specs.Check.{rules, sheet, check, Sound}
+use Rattle.rules.specs.Check.{Sound}
 use Rattle.order.specs.Needs.{needs}
 use Rattle.order.specs.Orders.{RightOrder, houseOrder, ordered}
 use Rattle.order.proofs.GroundLaws.{needs-end}
@@ -82,12 +82,3 @@ module _ {s : List ℕ} (z : Sound s) where
           | no l ↦ omega (arith, l)
         ],
       )
-
--- a refusal of Check is that of rules 1 to 11
-pub check-turned : (s : List ℕ) (number place : ℕ) → turned number place ≡ check s → rules s ≡ refused number place
-unfolding check answer
-check-turned s number place = go (rules s)
-  where
-    go : (r : Ruling) → turned number place ≡ answer r (sheet s) → r ≡ refused number place
-    go passed e = let z : _≡_ {A = ℕ} 0 1 = cc in absurd (omega arith)
-    go (refused n p) e = let x : n ≡ number = cc in let y : p ≡ place = cc in rw (x, y)

@@ -1,13 +1,12 @@
 -- Right orders and the house order of a sheet, rule 15, and what House order answers and leaves.
 use Prim.Native.Nat.{ℕ}
 use mathlib.Core.Path.{_≡_}
-use mathlib.Core.Bool.{not}
 use mathlib.Core.List.{List}
-use lib.Dec.{eqb}
 use lib.ListN.{length}
 use Rattle.table.specs.Order.{Right, misplaced, house}
-use Rattle.sheet.specs.Ruling.{Ruling, rule, each, _then_, told, atEnd}
+use Rattle.sheet.specs.Ruling.{Ruling, lent, each, _then_, told, atEnd}
 use Rattle.sheet.specs.Bytes.{nodes}
+use Rattle.sheet.specs.declared.Lent.the-variants.{Order}
 use Rattle.sheet.specs.declared.Judged.{Judged}
 use Rattle.rules.specs.Check.{rules}
 use Rattle.order.specs.Needs.{needs}
@@ -26,7 +25,7 @@ ordered s order = each 15 (misplaced (nodes s) (needs s) order) 0 (nodes s)
 
 -- House order's rules, of a lent slice of a length
 unfoldable pub houseRules : List ℕ → ℕ → Ruling
-houseRules s size = rules s then rule (not (eqb size (nodes s))) 12 3
+houseRules s size = rules s then lent Order size (nodes s)
 
 -- what House order answers, and what the lent slice holds at the end
 pub record HouseOrder (s old : List ℕ) (r : Judged) (new : List ℕ) : Type 0 where

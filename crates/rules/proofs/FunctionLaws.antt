@@ -2,28 +2,28 @@
 -- rules, and what the last arm of a match on a kind or an operator knows.
 use Prim.Native.Nat.{ℕ, _<_}
 use mathlib.Core.Path.{_≡_, _∙_}
-use native.Mathlib.Omega.{arith}
 use mathlib.Core.Logic.{inl, inr}
 use mathlib.Core.Bool.{true}
 use mathlib.Core.List.{List, [], _∷_}
+use native.Mathlib.Omega.{arith}
 use lib.ListN.{getD}
 use denote.Enum.Declared.{tagOf}
 use types.Run.{OneOf}
+use Rattle.number.proofs.Operator.{the-type as operators}
+use Rattle.number.specs.declared.Operator.{Operator}
+use Rattle.number.specs.declared.Operator.the-variants.{Not, And, Or, Xor, If, Eq, Lt, Le, Add, Sub, Mul, Div, Neg, Mod}
 use Rattle.sheet.specs.Ceilings.{maxNodes}
 use Rattle.sheet.specs.Ruling.{Ruling, passed, refused, _then_, told}
 use Rattle.sheet.specs.Bytes.{nodes, kindAt, argument, arityAt, isVar, operand, Ends, operandBy}
 use Rattle.sheet.specs.Form.{Formed}
-use Rattle.sheet.proofs.SheetLaws.{operand-by-table}
-use Rattle.number.proofs.Operator.{the-type as operators}
-use Rattle.number.specs.declared.Operator.{Operator}
-use Rattle.number.specs.declared.Operator.the-variants.{Not, And, Or, Xor, If, Eq, Lt, Le, Add, Sub, Mul, Div, Neg, Mod}
-use Rattle.sheet.proofs.Kind.{the-type as kinds}
 use Rattle.sheet.specs.declared.ValueType.{ValueType}
 use Rattle.sheet.specs.declared.Kind.{Kind}
 use Rattle.sheet.specs.declared.Kind.the-variants.{Const, Input, Var, Op, Fby, Rec, Let, Check, Contract, Unknown}
 use Rattle.sheet.specs.declared.Refusal.{Refusal}
 use Rattle.sheet.specs.declared.Judged.{Judged}
 use Rattle.sheet.specs.declared.Judged.the-variants.{Passed, Refused}
+use Rattle.sheet.proofs.SheetLaws.{operand-by-table}
+use Rattle.sheet.proofs.Kind.{the-type as kinds}
 use Rattle.rules.specs.Check.{Scoped}
 use Rattle.rules.proofs.GuardLaws.{scoped-is}
 

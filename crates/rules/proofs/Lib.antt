@@ -3,4 +3,4 @@ pub mod GuardLaws
 pub mod RankLaws
 pub mod TypeLaws
 pub mod CheckLaws
-mod FunctionLaws
+pub mod FunctionLaws

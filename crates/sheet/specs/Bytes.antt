@@ -1,13 +1,12 @@
 -- Document 01, "Sheet bytes". Bytes past the end read 0, so that every sentence has a meaning for any bytes.
-use Prim.Native.Nat.{ℕ, suc, _+_, _-_, _*_, _/_, _<_}
+use Prim.Native.Nat.{ℕ, _+_, _-_, _*_, _/_, _<_}
 use mathlib.Core.Path.{_≡_}
 use mathlib.Core.Bool.{Bool, true, false, _&&_}
-use mathlib.Core.List.{List, [], _∷_, map}
+use mathlib.Core.List.{List, [], _∷_}
 use lib.ListN.{length, getD}
-use lib.Dec.{ltb, leb, eqb}
+use lib.Dec.{ltb, leb}
 use Rattle.number.specs.Word.{word}
 use Rattle.number.specs.Operators.{operands}
-use Rattle.number.specs.declared.Operator.{Operator}
 use Rattle.number.specs.declared.Operator.the-variants.{Not, And, Or, Xor, If, Eq, Lt, Le, Add, Sub, Mul, Div, Neg, Mod}
 use Rattle.sheet.specs.Prefix.{times, end}
 use Rattle.sheet.specs.declared.ValueType.{ValueType}

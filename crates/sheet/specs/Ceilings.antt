@@ -1,6 +1,5 @@
 -- The sheet's ceilings: "16 columns, 512 nodes, depth 32 (the root has depth 1), 64 slots".
 use Prim.Native.Nat.{ℕ}
-use mathlib.Core.Path.{_≡_}
 use Rattle.sheet.specs.declared.Ceilings.{Ceilings}
 
 abbrev pub maxColumns : ℕ

@@ -1,12 +1,12 @@
 -- Rules 1 to 6 of document 01's table: a sheet's bytes have the form of one expression in prefix order.
-use Prim.Native.Nat.{ℕ, _+_, _-_, _*_, _/_, _≤_, _<_, min}
+use Prim.Native.Nat.{ℕ, _+_, _*_, _≤_, _<_, min}
 use mathlib.Core.Path.{_≡_}
 use mathlib.Core.Bool.{Bool, true, false, not, _&&_, _||_}
 use mathlib.Core.List.{List}
-use lib.ListN.{length, getD}
+use lib.ListN.{length}
 use lib.Dec.{ltb, leb, eqb}
 use Rattle.sheet.specs.Ceilings.{maxColumns, maxNodes}
-use Rattle.sheet.specs.Ruling.{Ruling, passed, rule, each, _then_}
+use Rattle.sheet.specs.Ruling.{Ruling, rule, each, _then_}
 use Rattle.sheet.specs.Bytes.{byte, stated, columns, nodes, kindAt, argument, endOf}
 use Rattle.sheet.specs.declared.ValueType.{ValueType}
 use Rattle.sheet.specs.declared.ValueType.the-variants.{Bool as bool, Int as int}

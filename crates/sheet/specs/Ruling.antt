@@ -1,7 +1,7 @@
 -- "Refusal numbers. Tried in this order, each rule over everything before the next. A refusal answers number and place."
 use Prim.Native.Nat.{ℕ, _+_}
-use mathlib.Core.Bool.{Bool, true, false, cond}
-use lib.Dec.{ltb}
+use mathlib.Core.Bool.{Bool, cond, not}
+use lib.Dec.{ltb, eqb}
 use Rattle.finite.specs.Lowest.{lowest}
 use Rattle.sheet.specs.declared.Lent.{Lent}
 use Rattle.sheet.specs.declared.Lent.the-variants.{Rows, Cells, Order as Orders, Values, Outputs}
@@ -51,6 +51,10 @@ lentPlace Cells = 2
 lentPlace Orders = 3
 lentPlace Values = 4
 lentPlace Outputs = 5
+
+-- 12 LENT: "a lent slice of wrong length"
+abbrev pub lent : Lent → (size right : ℕ) → Ruling
+lent slice size right = rule (not (eqb size right)) 12 (lentPlace slice)
 
 -- document 01's number of each refusal
 abbrev pub numberOf : Refusal → ℕ

@@ -13,10 +13,9 @@ use Rattle.sheet.specs.declared.Refusal.the-variants.{Lent}
 use Rattle.sheet.specs.declared.Lent.the-variants.{Order}
 use Rattle.sheet.specs.declared.Judged.the-variants.{Passed, Refused}
 use Rattle.rules.specs.Check.{rules, sheet, check, said, Tables, Sound}
-use Rattle.rules.proofs.CheckLaws.{rules-exactly, check-exactly}
+use Rattle.rules.proofs.CheckLaws.{rules-exactly, check-exactly, check-turned}
 use Rattle.order.specs.Needs.{Given}
 use Rattle.order.specs.Orders.{houseOrder, houseRules, HouseOrder}
-use Rattle.order.proofs.OrderLaws.{check-turned}
 use Rattle.order.proofs.house_order.Statement.{statement}
 use Rattle.order.proofs.house_order.Tie as tie
 

@@ -1,5 +1,5 @@
 -- After i turns none of the first i nodes is ready; after k turns of the inner loop the first k needs of node i are marked.
-use Prim.Native.Nat.{ℕ, _-_, _≤_}
+use Prim.Native.Nat.{_-_, _≤_}
 use mathlib.Core.Path.{_≡_, sym, _∙_}
 use mathlib.Core.Logic.{⊎-elim}
 use mathlib.Core.Bool.{Bool, not}

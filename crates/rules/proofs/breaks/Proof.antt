@@ -1,10 +1,6 @@
 -- Each arm is the definition's clause of its rule, by the table that the rule goes by.
-use mathlib.Core.Path.{ap, _∙_}
-use Prim.Native.Nat.{ℕ, _+_}
-use lib.Dec.{ltb}
 use borrow.Author.Needs.{needs}
-use Rattle.sheet.specs.Ceilings.{maxDepth}
-use Rattle.rules.specs.Check.{breaks, Ready}
+use Rattle.rules.specs.Check.{breaks}
 use Rattle.rules.proofs.GuardLaws.{depth-counted}
 use Rattle.rules.proofs.breaks.Statement.{statement}
 use Rattle.rules.proofs.breaks.Tie as tie

@@ -6,7 +6,7 @@ use native.Mathlib.Omega.{arith}
 use lib.ListN.{getD}
 use borrow.Author.Needs.{needs}
 use Rattle.finite.specs.Count.{count}
-use Rattle.finite.proofs.CountLaws.{count-le, count-step-yes, count-step-no}
+use Rattle.finite.proofs.CountLaws.{count-step-yes, count-step-no}
 use Rattle.finite.proofs.ListLaws.{filled-more}
 use Rattle.sheet.specs.Bytes.{nodes, isFby}
 use Rattle.rules.specs.Scope.{fbyAt}

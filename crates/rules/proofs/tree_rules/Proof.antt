@@ -3,7 +3,7 @@ use mathlib.Core.Path.{_≡_, sym, ap, _∙_}
 use borrow.Author.Needs.{needs}
 use Rattle.sheet.specs.Ruling.{_then_, told}
 use Rattle.rules.specs.Check.{ruled, treeRules}
-use Rattle.rules.specs.declared.Rule.the-variants.{Depth, Scope, Types, Unguarded}
+use Rattle.rules.specs.declared.Rule.the-variants.{Scope, Types, Unguarded}
 use Rattle.rules.proofs.CheckLaws.{scope-passed}
 use Rattle.rules.proofs.FunctionLaws.{stops, goes, not-passed}
 use Rattle.rules.proofs.tree_rules.Statement.{statement}

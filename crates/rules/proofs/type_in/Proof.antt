@@ -1,7 +1,5 @@
 use mathlib.Core.Path.{_≡_, refl}
-use mathlib.Core.List.{[], _∷_}
 use Prim.Native.Nat.{ℕ, zero, suc}
-use native.Mathlib.Omega.{arith}
 use borrow.Author.Needs.{needs}
 use Rattle.sheet.specs.Bytes.{typeOf}
 use Rattle.sheet.specs.declared.ValueType.the-variants.{Int as int}

@@ -1,0 +1,3 @@
+-- The starred examples of document 01.
+pub mod Sheets
+pub mod Table
