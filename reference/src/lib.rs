@@ -4,6 +4,7 @@
 pub mod eval;
 pub mod examples;
 pub mod files;
+pub mod gate;
 pub mod gen;
 pub mod order;
 pub mod requests;

@@ -1,6 +1,6 @@
 //! The commands.
 
-use reference::{examples, files, text, with_big_stack};
+use reference::{examples, files, gate, text, with_big_stack};
 use std::io::{Read, Write};
 use std::process::ExitCode;
 
@@ -13,10 +13,12 @@ fn main() -> ExitCode {
             ["sheetop"] => print(&text::sheetop(&read_all())),
             ["write", dir] => files::write(dir),
             ["compare", dir] => files::compare(dir),
+            ["write-gate", crates] => gate::write(crates),
+            ["compare-gate", crates] => gate::compare(crates),
             ["histogram"] => files::histogram(),
             ["check-examples"] => examples::report(),
             _ => {
-                eprintln!("commands: sheetrun, sheetop, write DIR, compare DIR, histogram, check-examples");
+                eprintln!("commands: sheetrun, sheetop, write DIR, compare DIR, write-gate CRATES, compare-gate CRATES, histogram, check-examples");
                 ExitCode::from(2)
             }
         }
