@@ -34,7 +34,7 @@ use Rattle.meaning.specs.Admitted.{AdmittedRow, AdmittedHeld}
 use Rattle.meaning.proofs.MeaningLaws.{tick-same, meaning-one}
 use Rattle.meaning.proofs.CellLaws.{length-at, held-at, stream-start, stream-step}
 use Rattle.meaning.proofs.TypedLaws.{start-bits, next-bits}
-use Rattle.meaning.proofs.VerdictLaws.{verdict-same, failures-same, worst-same}
+use Rattle.meaning.proofs.VerdictLaws.{verdict-same, failures-same, lowestFailing-same}
 use Rattle.engine.specs.Rows.{rowAt}
 use Rattle.engine.specs.Operations.{startRules, Start, tickRules, answerOf, saidTick, Worked, Tick, runRules, saidRun, Run}
 use Rattle.engine.specs.declared.Answer.{Answer}
@@ -175,7 +175,7 @@ pub record Meant (s : List ℕ) (X : ℕ → ℕ → ℤ) (t : ℕ) (r : Ticked)
 
 answer-same : {s : List ℕ} → Formed s → (v w : ℕ → ℤ) → ((i : ℕ) → i < nodes s → v i ≡ w i) → answerOf s v ≡ answerOf s w
 unfolding answerOf
-answer-same f v w same = rw (same 0 (f .some), failures-same f v w same, worst-same f v w same)
+answer-same f v w same = rw (same 0 (f .some), failures-same f v w same, lowestFailing-same f v w same)
 
 module _ {s : List ℕ} {T : ℕ} {rows : ℕ → List ℤ} {orders : ℕ → List ℕ} {lent : ℕ → List ℤ} {r : ℕ → Ticked} {cells values : ℕ → List ℤ}
     (k : Calls s T rows orders lent r cells values) (X : ℕ → ℕ → ℤ) (m : Means s rows X) where

@@ -16,7 +16,7 @@ use Rattle.rules.specs.Slots.{slots}
 use Rattle.rules.specs.Check.{rules}
 use Rattle.order.specs.Orders.{ordered}
 use Rattle.meaning.specs.Equations.{Solves, Means}
-use Rattle.meaning.specs.Verdicts.{failures, worst, failingTicks}
+use Rattle.meaning.specs.Verdicts.{failures, lowestFailing, failingTicks}
 use Rattle.meaning.specs.Cells.{startCells, nextCells, held}
 use Rattle.engine.specs.Rows.{rowRule, cellRule, rowAt}
 use Rattle.engine.specs.declared.Answer.{Answer}
@@ -55,7 +55,7 @@ tickRules s row cells order values = rules s then tickTests s row cells order va
 
 -- "answers the root's value and verdicts", from a tick's values
 unfoldable pub answerOf : List ℕ → (v : ℕ → ℤ) → Answer
-answerOf s v = record { root = v 0; failures = failures s v; worst = worst s v }
+answerOf s v = record { root = v 0; failures = failures s v; lowest = lowestFailing s v }
 
 -- a tick's answer in document 01's numbers
 abbrev pub saidTick : Ticked → Outcome Answer

@@ -1,6 +1,6 @@
 // Start, Tick and Run over lent slices. Each takes the sheet's bytes and checks them itself: first all the tests, then the work.
+use meaning::Lowest;
 use meaning::Verdict;
-use meaning::Worst;
 use rules::Checked;
 use sheet::Column;
 use sheet::Judged;
@@ -38,7 +38,7 @@ ghost use Rattle.engine.specs.Operations as operations;
 pub struct Answer {
     pub root: i32,
     pub failures: usize,
-    pub worst: Worst,
+    pub lowest: Lowest,
 }
 
 pub enum Ticked {
@@ -338,20 +338,20 @@ fn failures_of(s: &[u8], ends: &[u16; Sheet::NODES], values: &[i32]) -> usize
     count
 }
 
-fn worst_of(s: &[u8], ends: &[u16; Sheet::NODES], values: &[i32]) -> Worst
+fn lowest_of(s: &[u8], ends: &[u16; Sheet::NODES], values: &[i32]) -> Lowest
     requires { ⌜ Given (now s) (now ends) ⌝ }
-    ensures { λ r. ⌜ r ≡ verdicts.worst (now (s .entry)) (at (pos 0) (now (values .entry))) ⌝ }
+    ensures { λ r. ⌜ r ≡ verdicts.lowestFailing (now (s .entry)) (at (pos 0) (now (values .entry))) ⌝ }
 {
     let n = sheet::nodes(s) as u16;
     let mut i: u16 = 0;
     while i < n {
         let v = verdict_of(s, ends, values, Node(i));
         if !is_pass(v) {
-            return Worst::Failing(Node(i), v);
+            return Lowest::Failing(Node(i), v);
         }
         i += 1;
     }
-    Worst::Clean
+    Lowest::None
 }
 
 fn answer_of(s: &[u8], ends: &[u16; Sheet::NODES], values: &[i32]) -> Answer
@@ -360,11 +360,11 @@ fn answer_of(s: &[u8], ends: &[u16; Sheet::NODES], values: &[i32]) -> Answer
 {
     let root = value_of(values, Node(0));
     let failures = failures_of(s, ends, values);
-    let worst = worst_of(s, ends, values);
+    let lowest = lowest_of(s, ends, values);
     Answer {
         root,
         failures,
-        worst,
+        lowest,
     }
 }
 

@@ -37,14 +37,6 @@ module _ (s : List ℕ) where
   -- ---- each FBY's value read from its slot
 
   module _ (i : ℕ) (l : i < nodes s) (e : fbyAt s i ≡ true) where
-    pub held-start : held s (startCells s) i ≡ literal s i
-    unfolding startCells held slot
-    held-start = gather-at (fbyAt s) (literal s) (pos 0) (nodes s) i l e
-
-    pub held-next : (v : ℕ → ℤ) → held s (nextCells s v) i ≡ v (operand s i 0)
-    unfolding nextCells held slot
-    held-next v = gather-at (fbyAt s) (λ i. v (operand s i 0)) (pos 0) (nodes s) i l e
-
     pub held-at : (X : ℕ → ℕ → ℤ) (t : ℕ) → held s (cellsAt s X t) i ≡ delayed s X t i
     unfolding cellsAt held slot
     held-at X t = gather-at (fbyAt s) (delayed s X t) (pos 0) (nodes s) i l e

@@ -1,6 +1,6 @@
 -- Verdicts, and what is counted of them, go by the values of nodes alone.
 use Prim.Native.Nat.{ℕ, _<_}
-use mathlib.Core.Path.{_≡_, refl, ap}
+use mathlib.Core.Path.{_≡_, refl}
 use mathlib.Core.List.{List}
 use native.Mathlib.Omega.{arith}
 use lib.Dec.{ltb}
@@ -15,7 +15,7 @@ use Rattle.sheet.specs.Form.{Formed}
 use Rattle.sheet.specs.declared.Kind.{Kind}
 use Rattle.sheet.specs.declared.Kind.the-variants.{Const, Input, Var, Op, Fby, Rec, Let, Check, Contract, Unknown}
 use Rattle.sheet.proofs.SheetLaws.{operand-node}
-use Rattle.meaning.specs.Verdicts.{verdictBy, verdict, failing, failures, worst, failingTicks}
+use Rattle.meaning.specs.Verdicts.{verdictBy, verdict, failing, failures, lowestFailing}
 
 module _ {s : List ℕ} (f : Formed s) (v w : ℕ → ℤ) (same : (i : ℕ) → i < nodes s → v i ≡ w i) where
   by-operands : (i : ℕ) (k : Kind) → ((n : ℕ) → n < arity k → v (operand s i n) ≡ w (operand s i n)) → verdictBy s v i k ≡ verdictBy s w i k
@@ -42,15 +42,9 @@ module _ {s : List ℕ} (f : Formed s) (v w : ℕ → ℤ) (same : (i : ℕ) →
   unfolding failures
   failures-same = count-cong (failing s v) (failing s w) (nodes s) failing-same
 
-  pub worst-same : worst s v ≡ worst s w
-  unfolding worst
-  worst-same =
+  pub lowestFailing-same : lowestFailing s v ≡ lowestFailing s w
+  unfolding lowestFailing
+  lowestFailing-same =
       rw (lowest-same (failing s v) (failing s w) 0 (nodes s) (λ i l u. failing-same i (omega arith)))
       (let i : ℕ = lowest (failing s w) 0 (nodes s) in
       by-test (ltb i (nodes s)) (λ t. rw (t, verdict-same i (ltb-true i (nodes s) t))) (λ n. rw n))
-
-pub ticks-same : {s : List ℕ} → Formed s → (X Y : ℕ → ℕ → ℤ) (T : ℕ) → ((t : ℕ) → t < T → (i : ℕ) → i < nodes s → X t i ≡ Y t i) →
-    failingTicks s X T ≡ failingTicks s Y T
-unfolding failingTicks
-ticks-same {s} f X Y T same =
-    count-cong (λ t. ltb 0 (failures s (X t))) (λ t. ltb 0 (failures s (Y t))) T (λ t l. ap (ltb 0) (failures-same f (X t) (Y t) (same t l)))

@@ -12,8 +12,8 @@ use Rattle.sheet.specs.declared.Kind.{Kind}
 use Rattle.sheet.specs.declared.Kind.the-variants.{Const, Input, Var, Op, Fby, Rec, Let, Check, Contract, Unknown}
 use Rattle.meaning.specs.declared.Verdict.{Verdict}
 use Rattle.meaning.specs.declared.Verdict.the-variants.{Pass, Fail, Caller, Body}
-use Rattle.meaning.specs.declared.Worst.{Worst}
-use Rattle.meaning.specs.declared.Worst.the-variants.{Clean, Failing}
+use Rattle.meaning.specs.declared.Lowest.{Lowest}
+use Rattle.meaning.specs.declared.Lowest.the-variants.{None, Failing}
 
 -- "A CONTRACT whose rely is false at this tick is CALLER; one whose rely is true and guarantee false at this tick is BODY"
 abbrev pub contractVerdict : (rely guarantee : Bool) → Verdict
@@ -49,8 +49,8 @@ unfoldable pub failures : List ℕ → (v : ℕ → ℤ) → ℕ
 failures s v = count (failing s v) (nodes s)
 
 -- "the lowest such node with its verdict, or that there is none"
-unfoldable pub worst : List ℕ → (v : ℕ → ℤ) → Worst
-worst s v = let i = lowest (failing s v) 0 (nodes s) in cond (ltb i (nodes s)) (Failing (record { 0 = i }) (verdict s v i)) Clean
+unfoldable pub lowestFailing : List ℕ → (v : ℕ → ℤ) → Lowest
+lowestFailing s v = let i = lowest (failing s v) 0 (nodes s) in cond (ltb i (nodes s)) (Failing (record { 0 = i }) (verdict s v i)) None
 
 -- "the number of ticks with any verdict other than PASS", of the first T, where X t i is node i's value at tick t
 unfoldable pub failingTicks : List ℕ → (X : ℕ → ℕ → ℤ) → (T : ℕ) → ℕ

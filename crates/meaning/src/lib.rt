@@ -9,7 +9,7 @@ pub enum Verdict {
 }
 
 // The lowest node that is not PASS with its verdict, or that there is none.
-pub enum Worst {
-    Clean,
+pub enum Lowest {
+    None,
     Failing(Node, Verdict),
 }

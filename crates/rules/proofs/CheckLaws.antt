@@ -13,7 +13,6 @@ use Rattle.finite.proofs.CountLaws.{count-yes, count-no, count-lt}
 use Rattle.sheet.specs.Ceilings.{maxDepth, maxSlots}
 use Rattle.sheet.specs.Ruling.{Ruling, passed, refused, accepted, turned, answer}
 use Rattle.sheet.specs.Bytes.{nodes, kindAt, argument, isVar}
-use Rattle.sheet.specs.Form.{Formed}
 use Rattle.sheet.specs.declared.Sheet.{Sheet}
 use Rattle.sheet.proofs.RulingLaws.{each-passed, then-passed, answer-accepted, one-refusal}
 use Rattle.sheet.proofs.FormLaws.{form-iff}
@@ -114,9 +113,6 @@ module _ (s : List ℕ) where
   check-exactly z =
       let e = answer-accepted (rules s) (sheet s) z in
       (λ a. (sound (e .0 a .0), e .0 a .1), λ k. e .1 (passing (k .0), k .1))
-
-  pub formed-of : rules s ≡ passed → Formed s
-  formed-of e = sound e .formed
 
 -- what Check's answer says tells the answer
 pub one-checked : (a b : Checked) → said a ≡ said b → a ≡ b

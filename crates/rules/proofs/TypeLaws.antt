@@ -9,7 +9,7 @@ use native.Mathlib.Omega.{arith}
 use Rattle.number.specs.Operators.{operands}
 use Rattle.number.specs.declared.Operator.{Operator}
 use Rattle.number.specs.declared.Operator.the-variants.{Not, And, Or, Xor, If, Eq, Lt, Le, Add, Sub, Mul, Div, Neg, Mod}
-use Rattle.sheet.specs.Bytes.{nodes, kindAt, argument, columnType, arity, arityAt, isVar, endOf, operand, lies}
+use Rattle.sheet.specs.Bytes.{nodes, kindAt, argument, arity, arityAt, isVar, endOf, operand, lies}
 use Rattle.sheet.specs.Form.{Formed}
 use Rattle.sheet.specs.declared.ValueType.{ValueType}
 use Rattle.sheet.specs.declared.Kind.{Kind}
@@ -33,21 +33,9 @@ module _ (s : List ℕ) (i : ℕ) where
       let e : size ≡ suc (size - 1) = omega arith in
       (typesAfter s (size - 1), ap (λ (k : ℕ). typesAfter s k i) e)
 
-  pub const-type : (t : ValueType) → kindAt s i ≡ Const t → typeAt s i ≡ t
-  unfolding typeBy
-  const-type t e = rw e at (by-rule .1)
-
   pub fby-type : (t : ValueType) → kindAt s i ≡ Fby t → typeAt s i ≡ t
   unfolding typeBy
   fby-type t e = rw e at (by-rule .1)
-
-  pub rec-type : (t : ValueType) → kindAt s i ≡ Rec t → typeAt s i ≡ t
-  unfolding typeBy
-  rec-type t e = rw e at (by-rule .1)
-
-  pub input-type : kindAt s i ≡ Input → typeAt s i ≡ columnType s (argument s i)
-  unfolding typeBy
-  input-type e = rw e at (by-rule .1)
 
 -- an operator's type goes by its second operand only where it has one
 pub operator-local : (t u : ValueType) (o : Operator) → (1 < operands o → t ≡ u) → operatorType o t ≡ operatorType o u

@@ -31,16 +31,16 @@ use Rattle.order.proofs.GroundLaws.{needs-end}
 use Rattle.order.proofs.OrderLaws.{house-right}
 use Rattle.meaning.specs.Equations.{source, literal, valueBy, value}
 use Rattle.meaning.specs.Local.{localBy, localValue, machine}
-use Rattle.meaning.specs.Verdicts.{verdictBy, verdict, worst}
+use Rattle.meaning.specs.Verdicts.{verdictBy, verdict, lowestFailing}
 use Rattle.meaning.proofs.MeaningLaws.{meaning-same, orders-mean}
-use Rattle.meaning.proofs.VerdictLaws.{worst-same}
+use Rattle.meaning.proofs.VerdictLaws.{lowestFailing-same}
 use Rattle.engine.specs.Rows.{rowAt}
 use Rattle.settled.specs.Sheets.{A, bare, strict, B, D}
 use Rattle.settled.specs.Table.{Gives, root, Settled}
 
 -- `unfolding computes` opens all that the examples compute with
 unfoldable pub computes : ℕ
-unfolding lowest count member all gather wrap sum difference negated product divided modulo applied ready fit misplaced next housePart house work memAt valsAt rule each _then_ answer times past end nodes columnType start kindOf kindAt argument arity isVar isFby endOf operand lies above wholeBody known badRecord lengthVersion columnTypes body records shape form over depth binds scoped isRec between guarded namedType operatorType typeBy typesAfter typeAt fits wellTyped mistyped slot slots breaks treeRules rules sheet check namedNeed needsBy needs houseOrder ordered source literal valueBy value localBy localValue machine verdictBy verdict worst rowAt A bare strict B D
+unfolding lowest count member all gather wrap sum difference negated product divided modulo applied ready fit misplaced next housePart house work memAt valsAt rule each _then_ answer times past end nodes columnType start kindOf kindAt argument arity isVar isFby endOf operand lies above wholeBody known badRecord lengthVersion columnTypes body records shape form over depth binds scoped isRec between guarded namedType operatorType typeBy typesAfter typeAt fits wellTyped mistyped slot slots breaks treeRules rules sheet check namedNeed needsBy needs houseOrder ordered source literal valueBy value localBy localValue machine verdictBy verdict lowestFailing rowAt A bare strict B D
 computes = 0
 
 -- the values that working the house order at every tick fills in
@@ -75,8 +75,8 @@ D-checked = refl
 root-same : (s : List ℕ) (z : Sheet) → check s ≡ accepted z → (v w : ℕ → ℤ) → ((i : ℕ) → i < nodes s → v i ≡ w i) → root v ≡ root w
 root-same s z e v w h = h 0 (check-exactly s z .0 e .0 .formed .some)
 
-worst-agrees : (s : List ℕ) (z : Sheet) → check s ≡ accepted z → (v w : ℕ → ℤ) → ((i : ℕ) → i < nodes s → v i ≡ w i) → worst s v ≡ worst s w
-worst-agrees s z e v w h = worst-same (check-exactly s z .0 e .0 .formed) v w h
+lowest-agrees : (s : List ℕ) (z : Sheet) → check s ≡ accepted z → (v w : ℕ → ℤ) → ((i : ℕ) → i < nodes s → v i ≡ w i) → lowestFailing s v ≡ lowestFailing s w
+lowest-agrees s z e v w h = lowestFailing-same (check-exactly s z .0 e .0 .formed) v w h
 
 pub settled : Settled
 unfolding computes worked
@@ -95,5 +95,5 @@ settled =
       B-house = refl;
       D-accepted = D-checked;
       D-values = by-working D _ D-checked _ root (root-same D _ D-checked) 3 _ refl;
-      D-verdicts = by-working D _ D-checked _ (worst D) (worst-agrees D _ D-checked) 3 _ refl;
+      D-verdicts = by-working D _ D-checked _ (lowestFailing D) (lowest-agrees D _ D-checked) 3 _ refl;
     }

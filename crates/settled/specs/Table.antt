@@ -10,9 +10,9 @@ use Rattle.sheet.specs.declared.ValueType.the-variants.{Int as int}
 use Rattle.rules.specs.Check.{check}
 use Rattle.order.specs.Orders.{houseOrder, ordered}
 use Rattle.meaning.specs.Equations.{Means}
-use Rattle.meaning.specs.Verdicts.{worst}
+use Rattle.meaning.specs.Verdicts.{lowestFailing}
 use Rattle.meaning.specs.declared.Verdict.the-variants.{Caller, Body}
-use Rattle.meaning.specs.declared.Worst.the-variants.{Clean, Failing}
+use Rattle.meaning.specs.declared.Lowest.the-variants.{None, Failing}
 use Rattle.engine.specs.Rows.{rowAt}
 use Rattle.settled.specs.Sheets.{A, bare, strict, B, D}
 
@@ -47,4 +47,4 @@ pub record Settled : Type 0 where
   -- D, rows -1, 0, 5: values -2, -1, 4, verdicts CALLER, BODY, PASS
   pub D-accepted : check D ≡ accepted (record { nodes = 10; columns = 1; slots = 0; root = int })
   pub D-values : Gives D (negsuc 0 ∷ pos 0 ∷ pos 5 ∷ []) root 3 (negsuc 1 ∷ negsuc 0 ∷ pos 4 ∷ [])
-  pub D-verdicts : Gives D (negsuc 0 ∷ pos 0 ∷ pos 5 ∷ []) (worst D) 3 (Failing (record { 0 = 0 }) Caller ∷ Failing (record { 0 = 0 }) Body ∷ Clean ∷ [])
+  pub D-verdicts : Gives D (negsuc 0 ∷ pos 0 ∷ pos 5 ∷ []) (lowestFailing D) 3 (Failing (record { 0 = 0 }) Caller ∷ Failing (record { 0 = 0 }) Body ∷ None ∷ [])

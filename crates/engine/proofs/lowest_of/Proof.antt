@@ -5,10 +5,10 @@ use native.Mathlib.Omega.{arith}
 use borrow.Author.Needs.{needs}
 use borrow.Author.Tests.{lt-ltb, le-ltb}
 use Rattle.finite.proofs.LowestLaws.{lowest-start, lowest-here, lowest-next, lowest-end}
-use Rattle.meaning.specs.Verdicts.{worst}
+use Rattle.meaning.specs.Verdicts.{lowestFailing}
 use Rattle.engine.proofs.FunctionLaws.{Tried, fails, fails-is}
-use Rattle.engine.proofs.worst_of.Statement.{statement}
-use Rattle.engine.proofs.worst_of.Tie as tie
+use Rattle.engine.proofs.lowest_of.Statement.{statement}
+use Rattle.engine.proofs.lowest_of.Tie as tie
 
 abbrev Inv-loop : tie.InvT-loop
 Inv-loop s ends values n i₀ i = (i ≤ n) × Tried (fails s values) n i
@@ -23,7 +23,7 @@ loop-holds : tie.Need-loop-holds Inv-loop μ-loop
 loop-holds c = (omega arith, lowest-start _ _ _ _ (omega arith))
 
 returns : tie.Need-returns Inv-loop μ-loop
-unfolding worst
+unfolding lowestFailing
 returns c =
     let a = c .before .before .before .before .before .before .before .args in
     let l = c .before .before .before .loop-test .taken in
@@ -37,14 +37,14 @@ loop-again c =
     (omega arith, c .before .before .before .before .loop .inv .1 ∙ lowest-next _ _ _ (c .before .before .before .loop-test .taken) (found ∙ c .if1 .left))
 
 returns-2 : tie.Need-returns-2 Inv-loop μ-loop
-unfolding worst
+unfolding lowestFailing
 returns-2 c =
     let a = c .before .before .before .before .args in
     let l = c .loop-test .left in
     rw (← c .before .before .nodes .ensures, c .before .loop .inv .1 ∙ lowest-end (fails (a .s .now) (a .values .now)) _ _ l, le-ltb _ _ l)
 
-pub worst-of-spec : {M : Type 1} → statement M
-worst-of-spec =
+pub lowest-of-spec : {M : Type 1} → statement M
+lowest-of-spec =
     tie.close
     (tie.spec
     Inv-loop
