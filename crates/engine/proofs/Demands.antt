@@ -84,7 +84,7 @@ done-said : (r : Ticked) (a : Answer) → saidTick r ≡ accepted a → r ≡ Do
 done-said (Done b) a e = ap Done (cc)
 done-said (Refused x) a e = let z : _≡_ {A = ℕ} 0 1 = cc in absurd (omega arith)
 
-answer-turned : {A : Type 0} (q : Ruling) (a : A) (number place : ℕ) → answer q a ≡ turned number place → q ≡ refused number place
+pub answer-turned : {A : Type 0} (q : Ruling) (a : A) (number place : ℕ) → answer q a ≡ turned number place → q ≡ refused number place
 unfolding answer
 answer-turned passed a number place e = let z : _≡_ {A = ℕ} 0 1 = cc in absurd (omega arith)
 answer-turned (refused n p) a number place e = cc
@@ -177,48 +177,51 @@ answer-same : {s : List ℕ} → Formed s → (v w : ℕ → ℤ) → ((i : ℕ)
 unfolding answerOf
 answer-same f v w same = rw (same 0 (f .some), failures-same f v w same, lowestFailing-same f v w same)
 
-module _ {s : List ℕ} {T : ℕ} {rows : ℕ → List ℤ} {orders : ℕ → List ℕ} {lent : ℕ → List ℤ} {r : ℕ → Ticked} {cells values : ℕ → List ℤ}
-    (k : Calls s T rows orders lent r cells values) (X : ℕ → ℕ → ℤ) (m : Means s rows X) where
+module _ {s : List ℕ} (z : Sound s) (T : ℕ) (rows : ℕ → List ℤ) (bits : (t : ℕ) → t < T → AdmittedRow s (rows t)) (X : ℕ → ℕ → ℤ) (m : Means s rows X) where
   -- bool FBYs answer 0 or 1
   delayed-bits : (t : ℕ) → t ≤ T → AdmittedHeld s (delayed s X t)
   unfolding delayed mistyped
-  delayed-bits zero b =
-      let z = k .sound in start-bits (z .formed) (scoped-of z) (λ i l. ap not (z .types i l)) (typeAt-is (z .formed) (scoped-of z))
+  delayed-bits zero b = start-bits (z .formed) (scoped-of z) (λ i l. ap not (z .types i l)) (typeAt-is (z .formed) (scoped-of z))
   delayed-bits (suc t) b =
-      let z = k .sound in
       next-bits (z .formed) (scoped-of z) (λ i l. ap not (z .types i l)) (typeAt-is (z .formed) (scoped-of z))
-      (rows t) (k .bits t b) (delayed s X t) (delayed-bits t (omega arith)) (X t) (needs-end z) (m t)
+      (rows t) (bits t b) (delayed s X t) (delayed-bits t (omega arith)) (X t) (needs-end z) (m t)
 
-  -- a tick from the cells that X says
-  tick-meant : (t : ℕ) → t < T → cells t ≡ cellsAt s X t → Meant s X t (r t) (cells t) (cells (suc t)) (values t)
-  tick-meant t b c =
-      let z = k .sound in
-      let ready : Ready s (rows t) (cells t) =
+  -- a tick in a right order from the cells that X says
+  pub tick-meant : (t : ℕ) → t < T → {cells lent cells′ values : List ℤ} {order : List ℕ} {r : Ticked} →
+      length (rows t) ≡ columns s → RightOrder s order → length lent ≡ nodes s → Tick s (rows t) cells order lent r cells′ values →
+      cells ≡ cellsAt s X t → Meant s X t r cells cells′ values
+  tick-meant t b {cells} {values = values} wide right sized k c =
+      let ready : Ready s (rows t) cells =
       record {
         sound = z;
-        row-size = k .wide t b;
+        row-size = wide;
         cells-size = rw c (length-at s X t);
-        row-bits = k .bits t b;
+        row-bits = bits t b;
         cell-bits = λ i l f q. rw (c, held-at s i l f X t) (delayed-bits t (omega arith) i l f q);
       } in
-      let (a, w) = tick-values (k .ticked t b) (order-exactly s _ _ _ _ ready (k .sized t b) .1 (k .right t b)) in
-      let (same, next) = stream-step (z .formed) (scoped-of z) (needs-end z) rows X m t (cells t) (at (pos 0) (values t)) c (w .values) in
+      let (a, w) = tick-values k (order-exactly s _ _ _ _ ready sized .1 right) in
+      let (same, next) = stream-step (z .formed) (scoped-of z) (needs-end z) rows X m t cells (at (pos 0) values) c (w .values) in
       record {
-        answer = a ∙ ap Done (answer-same (z .formed) (at (pos 0) (values t)) (X t) same);
+        answer = a ∙ ap Done (answer-same (z .formed) (at (pos 0) values) (X t) same);
         size = w .size;
         value = same;
-        verdicts = verdict-same (z .formed) (at (pos 0) (values t)) (X t) same;
+        verdicts = verdict-same (z .formed) (at (pos 0) values) (X t) same;
         slots-before = c;
         slots-after = w .cells ∙ rw add-one at next;
       }
 
+module _ {s : List ℕ} {T : ℕ} {rows : ℕ → List ℤ} {orders : ℕ → List ℕ} {lent : ℕ → List ℤ} {r : ℕ → Ticked} {cells values : ℕ → List ℤ}
+    (k : Calls s T rows orders lent r cells values) (X : ℕ → ℕ → ℤ) (m : Means s rows X) where
+  turn : (t : ℕ) → t < T → cells t ≡ cellsAt s X t → Meant s X t (r t) (cells t) (cells (suc t)) (values t)
+  turn t b = tick-meant (k .sound) T rows (k .bits) X m t b (k .wide t b) (k .right t b) (k .sized t b) (k .ticked t b)
+
   cells-meant : (t : ℕ) → t ≤ T → cells t ≡ cellsAt s X t
   cells-meant zero b = start-given (k .started) (k .sound) (k .enough) .1 ∙ stream-start s X
-  cells-meant (suc t) b = tick-meant t b (cells-meant t (omega arith)) .slots-after
+  cells-meant (suc t) b = turn t b (cells-meant t (omega arith)) .slots-after
 
   -- from a fresh start, at every tick, every node's value, every slot and every verdict is what the stream meaning says
   pub history : (t : ℕ) → t < T → Meant s X t (r t) (cells t) (cells (suc t)) (values t)
-  history t b = tick-meant t b (cells-meant t (omega arith))
+  history t b = turn t b (cells-meant t (omega arith))
 
 -- any right orders, a new one each tick, give equal answers, values (and so verdicts) and slots
 pub histories-equal : {s : List ℕ} {T : ℕ} {rows : ℕ → List ℤ} {orders₁ orders₂ : ℕ → List ℕ} {lent₁ lent₂ : ℕ → List ℤ}

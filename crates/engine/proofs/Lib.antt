@@ -3,6 +3,6 @@ pub mod RuleLaws
 pub mod Demands
 pub mod OneResult
 mod FillLaws
-mod RunLaws
+pub mod RunLaws
 mod FunctionLaws
 mod OperationLaws

@@ -94,13 +94,13 @@ impl RunState {
         }
     }
 
-    fn cells() -> [i32; Sheet::SLOTS]
+    pub fn cells() -> [i32; Sheet::SLOTS]
         ensures { λ r. ⌜ length r ≡ maxSlots ⌝ }
     {
         [0; Sheet::SLOTS]
     }
 
-    fn values() -> [i32; Sheet::NODES]
+    pub fn values() -> [i32; Sheet::NODES]
         ensures { λ r. ⌜ length r ≡ maxNodes ⌝ }
     {
         [0; Sheet::NODES]

@@ -1,0 +1,3 @@
+-- Laws of what the programs print.
+pub mod LineLaws
+pub mod TickLaws
