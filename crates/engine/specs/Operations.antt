@@ -90,7 +90,8 @@ abbrev pub saidRun : Ran → Outcome ℕ
 saidRun (Finished failing) = accepted failing
 saidRun (NotRun r) = turned (numberOf r) (placeOf r)
 
--- the end of a run that no rule refuses: whatever values meet the equations, their failing ticks are counted, and their roots are the outputs
+-- the end of a run that no rule refuses: whatever values meet the equations (of a sound sheet exactly one set does: `meaning` in proofs/Demands),
+-- their failing ticks are counted, and their roots are the outputs
 pub record WorkedAll (s : List ℕ) (rows : List ℤ) (T : ℕ) (r : Ran) (new : List ℤ) : Type 0 where
   pub answer : (X : ℕ → ℕ → ℤ) → Means s (rowAt s rows) X → r ≡ Finished (failingTicks s X T)
   pub outputs : (X : ℕ → ℕ → ℤ) → Means s (rowAt s rows) X → new ≡ gather (λ t. true) (λ t. X t 0) T

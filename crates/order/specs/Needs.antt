@@ -51,7 +51,7 @@ needCount Check = 1
 needCount Contract = 1
 needCount Unknown = 0
 
--- what the functions below go by: a sheet that every rule accepts, and a table that has its ends
+-- what needs are looked up by: a sheet that every rule accepts, and a table that has its ends
 pub record Given (s endTable : List ℕ) : Type 0 where
   pub sound : Sound s
   pub ends : Ends s endTable

@@ -41,7 +41,7 @@ ruleNumber Slots = 11
 abbrev pub ruled : List ℕ → Rule → Ruling
 ruled s r = each (ruleNumber r) (breaks s r) 0 (nodes s)
 
--- what the test of a rule goes by: a table of its own, and that the rules before it hold
+-- what the test of a rule goes by: a table of its own, and for the guard that rule 8 holds
 abbrev pub Ready : List ℕ → Rule → List ℕ → Type 0
 Ready s Depth table = Overs s false table
 Ready s Scope table = Unit {0}

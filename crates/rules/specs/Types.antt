@@ -58,7 +58,7 @@ typeBy s T i Unknown = bool
 abbrev pub typeRule : List ℕ → (i : ℕ) → (T : ℕ → ValueType) → ValueType
 typeRule s i T = typeBy s T i (kindAt s i)
 
--- the sentence applied so many times over
+-- document 01's sentence on types, applied so many times over
 unfoldable pub typesAfter : List ℕ → ℕ → ℕ → ValueType
 typesAfter s zero i = bool
 typesAfter s (suc k) i = typeRule s i (typesAfter s k)
