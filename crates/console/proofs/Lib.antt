@@ -1,3 +1,4 @@
 -- Laws of what the programs print.
 pub mod LineLaws
 pub mod TickLaws
+pub mod InputLaws

@@ -1,30 +1,23 @@
--- Laws of the ticks that are printed, and of the rules that an input is tried by.
-use Prim.Native.Nat.{ℕ, zero, suc, _+_, _-_, _*_, _/_, _%_, _≤_, _<_, min}
-use mathlib.Core.Path.{_≡_, refl, sym, ap, _∙_}
-use mathlib.Core.Bool.{true, false}
+-- Laws of the ticks that are printed, of what Run tells of the rows, and of the text that they make.
+use Prim.Native.Nat.{ℕ, suc, _+_, _*_, _≤_, _<_}
+use mathlib.Core.Path.{_≡_, refl, _∙_}
 use mathlib.Core.List.{List, _++_}
-use native.Mathlib.Nat.{mul-le-mul-right, mul-comm, mul-assoc, div-add-mod'}
 use native.Mathlib.Numerals.{add-one}
 use native.Mathlib.Omega.{arith}
-use lib.Dec.{ltb}
 use lib.IntN.{ℤ}
-use lib.ListN.{length, take, drop, length-append, length-drop, drop-of-length-le}
-use lib.Seq.{length-take-le, take-at, take-all}
-use borrow.Author.Tests.{ltb-true, ltb-false, lt-ltb, le-ltb, not-false, eqb-true, eq-eqb}
-use Rattle.finite.proofs.Tests.{by-test}
-use Rattle.finite.proofs.GatherLaws.{length-gather-all}
+use lib.ListN.{length, drop, length-drop}
+use lib.Seq.{length-take-le}
+use borrow.Author.Tests.{le-ltb, eq-eqb}
 use Rattle.text.specs.Text.{Appends}
 use Rattle.text.proofs.TextLaws.{append-none}
 use Rattle.sheet.specs.Ruling.{passed, refused, rule, _then_, turned, numberOf, placeOf}
-use Rattle.sheet.specs.Bytes.{stated, nodes, columns}
+use Rattle.sheet.specs.Bytes.{nodes, columns}
 use Rattle.sheet.specs.declared.Sheet.{Sheet}
 use Rattle.sheet.specs.declared.Refusal.{Refusal}
 use Rattle.rules.specs.Types.{typeAt}
 use Rattle.rules.specs.Slots.{slots}
-use Rattle.rules.specs.Check.{rules, sheet, check, said, Sound}
-use Rattle.rules.specs.declared.Checked.{Checked}
-use Rattle.rules.specs.declared.Checked.the-variants.{Accepted, Refused as Turned}
-use Rattle.rules.proofs.CheckLaws.{rules-exactly, check-exactly}
+use Rattle.rules.specs.Check.{Sound}
+use Rattle.rules.proofs.CheckLaws.{rules-exactly}
 use Rattle.order.specs.Orders.{RightOrder}
 use Rattle.meaning.specs.Equations.{Means}
 use Rattle.meaning.specs.Cells.{startCells}
@@ -38,8 +31,8 @@ use Rattle.engine.specs.declared.Ran.{Ran}
 use Rattle.engine.specs.declared.Ran.the-variants.{Finished, Refused as NotRun}
 use Rattle.engine.proofs.RuleLaws.{by-ruling, run-exactly}
 use Rattle.engine.proofs.RunLaws.{row-end}
-use Rattle.engine.proofs.Demands.{answer-turned, meaning, tick-meant, Meant, run-values, refused-run}
-use Rattle.console.specs.Sheetrun.{maxInput, sheetIn, rest, intAt, ints, brokenRows, rowsIn, ticksBy, ticks, restRules, inputRules, okLine, tickLine, tickLines, PrintedBy, Printed}
+use Rattle.engine.proofs.Demands.{meaning, tick-meant, Meant, run-values, refused-run}
+use Rattle.console.specs.Sheetrun.{ticks, okLine, tickLine, tickLines, PrintedBy}
 use Rattle.console.specs.Printing.{Puts, AcceptedAs, Prints, maxLine, TicksPut}
 use Rattle.console.proofs.LineLaws.{ok-length, puts-then, is-word, prints}
 
@@ -95,88 +88,7 @@ module _ {s : List ℕ} {rows : List ℤ} {T : ℕ} (p : runRules s rows T ≡ p
             (rw add-one (g .slots-after), rw (n, add-one) (puts-then (d .lines X m .1) (rw same at u)));
       }
 
--- ---- the rules
-
--- whole rows have an int for each column of each tick
-whole-rows : (c bytes : ℕ) → brokenRows c bytes ≡ false → bytes / 4 ≡ ticksBy c bytes * c
-whole-rows zero bytes h = let e = eqb-true bytes 0 (not-false _ h) in rw e
-whole-rows (suc c) bytes h =
-    let e = eqb-true (bytes % (4 * suc c)) 0 (not-false _ h) in
-    let q = bytes / (4 * suc c) in
-    let all : q * (4 * suc c) + bytes % (4 * suc c) ≡ bytes = div-add-mod' bytes (4 * suc c) in
-    let four : q * (4 * suc c) ≡ 4 * (q * suc c) = sym (mul-assoc q 4 (suc c)) ∙ rw (mul-comm q 4) (mul-assoc 4 q (suc c)) in
-    omega arith
-
--- an input
-module _ (input : List ℕ) where
-  module _ {cut : ℕ} (e : cut ≡ min (stated input) (length input)) where
-    pub cut-sheet : take cut input ≡ sheetIn input
-    unfolding sheetIn
-    cut-sheet =
-        by-test (ltb (stated input) (length input))
-        (λ t. let l = ltb-true (stated input) (length input) t in let q : cut ≡ stated input = omega arith in rw q)
-        (λ f. let l = ltb-false (stated input) (length input) f in take-all cut input (omega arith) ∙ sym (take-all (stated input) input l))
-
-    pub cut-rest : take (length input - cut) (drop cut input) ≡ rest input
-    unfolding rest
-    cut-rest =
-        take-all (length input - cut) (drop cut input) (rw length-drop (omega arith))
-        ∙ by-test (ltb (stated input) (length input))
-        (λ t. let l = ltb-true (stated input) (length input) t in let q : cut ≡ stated input = omega arith in rw q)
-        (λ f.
-        let l = ltb-false (stated input) (length input) f in
-        drop-of-length-le input {i = cut} (omega arith) ∙ sym (drop-of-length-le input {i = stated input} l))
-
-  pub input-over : maxInput < length input → inputRules input ≡ refused 1 0
-  unfolding inputRules rule _then_
-  input-over l = rw (lt-ltb maxInput (length input) l)
-
-  module _ (l : length input ≤ maxInput) where
-    pub input-refused : {r : Checked} {x : Refusal} → said r ≡ check (sheetIn input) → r ≡ Turned x → inputRules input ≡ refused (numberOf x) (placeOf x)
-    unfolding inputRules rule _then_ check
-    input-refused {x = x} e q =
-        let t = answer-turned (rules (sheetIn input)) (sheet (sheetIn input)) (numberOf x) (placeOf x) (sym e ∙ rw q) in
-        rw (le-ltb maxInput (length input) l, t)
-
-    pub input-rest : Sound (sheetIn input) → inputRules input ≡ restRules (sheetIn input) (rest input)
-    unfolding inputRules rule _then_
-    input-rest z = rw (le-ltb maxInput (length input) l, rules-exactly (sheetIn input) .1 z)
-
--- the bytes after an accepted sheet
-module _ {s : List ℕ} {z : Sheet} (k : AcceptedAs s z) (after : List ℕ) where
-  pub rest-broken : brokenRows (z .columns) (length after) ≡ true → restRules s after ≡ refused 12 1
-  unfolding restRules rule _then_
-  rest-broken h = rw (← k .columns-are, h)
-
-  module _ (h : brokenRows (z .columns) (length after) ≡ false) where
-    pub rest-many : maxRows < ticksBy (z .columns) (length after) → restRules s after ≡ refused 12 5
-    unfolding restRules rule _then_
-    rest-many l = rw (← k .columns-are, h, lt-ltb maxRows (ticksBy (z .columns) (length after)) l)
-
-    pub rest-rows : ticksBy (z .columns) (length after) ≤ maxRows → restRules s after ≡ rowRule s (ints after)
-    unfolding restRules rule _then_
-    rest-rows l = rw (← k .columns-are, h, le-ltb maxRows (ticksBy (z .columns) (length after)) l)
-
-    pub rest-whole : length after / 4 ≡ ticksBy (z .columns) (length after) * columns s
-    rest-whole = rw (← k .columns-are) (whole-rows (z .columns) (length after) h)
-
-    pub rest-fits : ticksBy (z .columns) (length after) ≤ maxRows → length after / 4 ≤ 4096
-    rest-fits l = omega (arith, rest-whole, k .few-columns, k .columns-are, mul-le-mul-right (columns s) l)
-
--- the ints, read into the first part of an array
-length-ints : (bytes : List ℕ) → length (ints bytes) ≡ length bytes / 4
-unfolding ints
-length-ints bytes = length-gather-all (intAt bytes) (length bytes / 4)
-
-module _ (bytes : List ℕ) {new : List ℤ} (old : List ℤ) (e : new ≡ ints bytes) where
-  pub ints-kept : length bytes / 4 ≤ length (new ++ drop (length bytes / 4) old)
-  ints-kept = rw (length-append, e, length-ints) (omega arith)
-
-  pub ints-read : take (length bytes / 4) (new ++ drop (length bytes / 4) old) ≡ ints bytes
-  ints-read = rw e (take-at (ints bytes) (drop (length bytes / 4) old) (length bytes / 4) (length-ints bytes))
-
-  pub ints-length : length (take (length bytes / 4) (new ++ drop (length bytes / 4) old)) ≡ length bytes / 4
-  ints-length = ap length ints-read ∙ length-ints bytes
+-- ---- a run
 
 -- of a sound sheet and whole rows, not too many, a run tries rule 13 alone
 pub run-rows : {s : List ℕ} → Sound s → (rows : List ℤ) (T : ℕ) → length rows ≡ T * columns s → T ≤ maxRows → runRules s rows T ≡ rowRule s rows
@@ -207,23 +119,6 @@ module _ {s : List ℕ} (z : Sound s) {rows old : List ℤ} {r : Ran} {new : Lis
 
 -- ---- all of the text
 
--- what Check answers
-pub accepted-as : (s : List ℕ) {r : Checked} {z : Sheet} → said r ≡ check s → r ≡ Accepted z → AcceptedAs s z
-unfolding sheet
-accepted-as s {r} {z} e a =
-    let (k, q) = check-exactly s z .0 (sym e ∙ rw a) in
-    rw (sym q)
-    record {
-      sound = k;
-      nodes-are = refl;
-      columns-are = refl;
-      slots-are = refl;
-      root-is = refl;
-      few-nodes = k .formed .few;
-      few-columns = k .formed .narrow;
-      few-slots = k .few;
-    }
-
 -- a first line and the lines of T ticks, for whatever values meet the equations
 pub prints-run : {s : List ℕ} {z : Sheet} (rows : List ℤ) (T : ℕ) {before between after : List ℕ} {at r : ℕ} → AcceptedAs s z → runRules s rows T ≡ passed →
     Appends (okLine (z .nodes) (z .columns) (z .slots) (z .root)) before between 0 at →
@@ -238,9 +133,3 @@ prints-run {s} {z} rows T {before} {after = after} {r = r} k p first ticks =
     Puts (20 + maxLine * T) (okLine (nodes s) (columns s) (slots s) (typeAt s 0) ++ tickLines s X T) before after 0 r =
     λ X m. rw (k .nodes-are, k .columns-are, k .slots-are, k .root-is) at (puts-then line (ticks X m)) in
     prints (all X₀ m₀) (PrintedBy passed s rows T) (λ room X m. is-word (all X m) (omega arith) room)
-
--- an input that is not too long, cut into a sheet that is accepted and the rest
-pub prints-input : (input : List ℕ) {z : Sheet} {s after : List ℕ} {old new : List ℕ} {r : ℕ} → length input ≤ maxInput → s ≡ sheetIn input → after ≡ rest input → AcceptedAs s z →
-    Prints (PrintedBy (restRules s after) s (ints after) (ticksBy (columns s) (length after))) old new r → Prints (Printed input) old new r
-unfolding rowsIn ticks
-prints-input input l e q k p = rw (input-rest input l (rw e at (k .sound))) (rw (e, q) at p)

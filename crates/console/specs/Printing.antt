@@ -14,6 +14,7 @@ use Rattle.rules.specs.Check.{Sound}
 use Rattle.meaning.specs.Equations.{Means}
 use Rattle.meaning.specs.Cells.{cellsAt}
 use Rattle.engine.specs.Rows.{rowAt}
+use Rattle.engine.specs.Operations.{maxRows}
 use Rattle.console.specs.Sheetrun.{tickLines, maxOutput}
 
 -- a word of at most so many bytes is appended
@@ -40,7 +41,11 @@ pub record Prints (P : List ℕ → Type 0) (before after : List ℕ) (r : ℕ) 
   pub counted : r ≡ length (take r after)
   pub text : maxOutput ≤ length before → P (take r after)
 
--- the bytes of a tick's line
+-- the most ints that rows can have: 256 rows of 16
+abbrev pub maxInts : ℕ
+maxInts = maxRows * maxColumns
+
+-- the most bytes of a tick's line
 abbrev pub maxLine : ℕ
 maxLine = 29
 

@@ -21,7 +21,7 @@ ghost use Rattle.meaning.specs.Equations.{Means};
 ghost use Rattle.engine.specs.Rows.{rowRule, rowAt};
 ghost use Rattle.engine.specs.Operations.{maxRows, runRules};
 ghost use Rattle.console.specs.Sheetrun as printed;
-ghost use Rattle.console.specs.Printing.{Puts, Prints, AcceptedAs, maxLine};
+ghost use Rattle.console.specs.Printing.{Puts, Prints, AcceptedAs, maxInts, maxLine};
 
 // An input: how many of its first bytes are the sheet. The rest are rows.
 pub struct Input {
@@ -33,7 +33,7 @@ impl Input {
     pub const BYTES: usize = 32768;
 
     // The most ints that rows can have.
-    pub const INTS: usize = 4096;
+    pub const INTS: usize = RunState::ROWS * Sheet::COLUMNS;
 
     // Room for any text that is printed.
     pub const TEXT: usize = 8192;
@@ -65,7 +65,7 @@ impl Input {
     }
 
     fn ints() -> [i32; Input::INTS]
-        ensures { λ r. ⌜ length r ≡ 4096 ⌝ }
+        ensures { λ r. ⌜ length r ≡ maxInts ⌝ }
     {
         [0; Input::INTS]
     }
@@ -82,10 +82,12 @@ impl Input {
 pub fn put_refusal(out: &mut [u8], at: usize, r: Refusal) -> usize
     ensures { λ n. ⌜ Puts 33 (printed.refusedLine (numberOf r) (placeOf r)) (now (out .entry)) (now (out .exit)) at n ⌝ }
 {
+    let number = r.number() as u64;
+    let place = r.place() as u64;
     let at = text::put(out, at, b"refused ");
-    let at = text::put_decimal(out, at, r.number() as u64);
+    let at = text::put_decimal(out, at, number);
     let at = text::put(out, at, b" ");
-    let at = text::put_decimal(out, at, r.place() as u64);
+    let at = text::put_decimal(out, at, place);
     text::put(out, at, b"\n")
 }
 
@@ -172,7 +174,7 @@ fn ticks_in(columns: usize, bytes: usize) -> usize
 }
 
 fn int_at(bytes: &[u8], k: usize) -> i32
-    requires { ⌜ k < 8192 ⌝ }
+    requires { ⌜ k < maxInts ⌝ }
     ensures { λ r. ⌜ r ≡ printed.intAt (now (bytes .entry)) k ⌝ }
 {
     let at = 4 * k;
@@ -185,7 +187,7 @@ fn int_at(bytes: &[u8], k: usize) -> i32
 }
 
 fn read_ints(bytes: &[u8], ints: &mut [i32])
-    requires { ⌜ (length (now ints) ≡ length (now bytes) / 4) × (length (now ints) ≤ 8192) ⌝ }
+    requires { ⌜ (length (now ints) ≡ length (now bytes) / 4) × (length (now ints) ≤ maxInts) ⌝ }
     ensures { λ _. ⌜ now (ints .exit) ≡ printed.ints (now (bytes .entry)) ⌝ }
 {
     let mut k = 0;
@@ -277,6 +279,18 @@ fn put_rows(s: &[u8], z: Sheet, rows: &[i32], ticks: usize, out: &mut [u8]) -> u
     }
 }
 
+// An accepted sheet with the bytes of whole rows, not too many.
+fn put_ints(s: &[u8], z: Sheet, rest: &[u8], ticks: usize, out: &mut [u8]) -> usize
+    requires { ⌜ AcceptedAs (now s) z ⌝ }
+    requires { ⌜ (length (now rest) / 4 ≡ ticks * bytes.columns (now s)) × (ticks ≤ maxRows) × (length (now rest) / 4 ≤ maxInts) ⌝ }
+    ensures { λ r. ⌜ Prints (printed.PrintedBy (rowRule (now (s .entry)) (printed.ints (now (rest .entry)))) (now (s .entry)) (printed.ints (now (rest .entry))) ticks) (now (out .entry)) (now (out .exit)) r ⌝ }
+{
+    let n = rest.len() / 4;
+    let mut ints = Input::ints();
+    read_ints(rest, &mut ints[..n]);
+    put_rows(s, z, &ints[..n], ticks, out)
+}
+
 // An accepted sheet, and the bytes after it.
 fn put_rest(s: &[u8], z: Sheet, rest: &[u8], out: &mut [u8]) -> usize
     requires { ⌜ AcceptedAs (now s) z ⌝ }
@@ -290,10 +304,7 @@ fn put_rest(s: &[u8], z: Sheet, rest: &[u8], out: &mut [u8]) -> usize
     if RunState::ROWS < ticks {
         return put_refusal(out, 0, Refusal::Lent(Lent::Outputs));
     }
-    let n = bytes / 4;
-    let mut ints = Input::ints();
-    read_ints(rest, &mut ints[..n]);
-    put_rows(s, z, &ints[..n], ticks, out)
+    put_ints(s, z, rest, ticks, out)
 }
 
 // All that sheetrun prints of an input, at the start of `out`; what is returned is its length.

@@ -1,9 +1,9 @@
 -- `console::put_refusal` meets its contract, word by word. Assumes nothing.
+use native.Mathlib.Omega.{arith}
 use Rattle.text.proofs.TextLaws.{append-then}
 use Rattle.console.specs.Sheetrun.{refusedLine}
-use native.Mathlib.Omega.{arith}
-use borrow.Author.Needs.{needs}
 use Rattle.console.proofs.LineLaws.{refused-length}
+use borrow.Author.Needs.{needs}
 use Rattle.console.proofs.put_refusal.Statement.{statement}
 use Rattle.console.proofs.put_refusal.Tie as tie
 
@@ -12,23 +12,23 @@ unfolding refusedLine
 returns c =
     record {
       appends =
-          append-then (c .before .before .before .before .before .before .before .before .before .before .before .before .before .before .before .before .before .before .before .before .before .before .put .ensures)
-          (append-then (rw (c .before .before .before .before .before .before .before .before .before .before .before .before .before .before .before .before .before .before .number .ensures) at (c .before .before .before .before .before .before .before .before .before .before .before .before .before .before .before .before .before .put-decimal .ensures))
-          (append-then (c .before .before .before .before .before .before .before .before .before .before .before .before .put2 .ensures) (append-then (rw (c .before .before .before .before .before .before .before .before .place .ensures) at (c .before .before .before .before .before .before .before .put-decimal2 .ensures)) (c .before .before .put3 .ensures))));
-      short = refused-length _ _ (omega (arith, c .before .before .before .before .before .before .before .before .before .before .before .before .before .before .before .before .before .before .number .ensures, c .before .before .before .before .before .before .before .before .before .before .before .before .before .before .before .before .before .before .number .ok)) (omega (arith, c .before .before .before .before .before .before .before .before .place .ensures, c .before .before .before .before .before .before .before .before .place .ok));
+          append-then (c .before .before .before .before .before .before .before .before .before .before .before .before .before .before .before .before .before .before .before .before .put .ensures)
+          (append-then (rw (c .before .before .before .before .before .before .before .before .before .before .before .before .before .before .before .before .before .before .before .before .before .before .before .before .number .ensures) at (c .before .before .before .before .before .before .before .before .before .before .before .before .before .before .before .before .put-decimal .ensures))
+          (append-then (c .before .before .before .before .before .before .before .before .before .before .before .put2 .ensures) (append-then (rw (c .before .before .before .before .before .before .before .before .before .before .before .before .before .before .before .before .before .before .before .before .before .before .before .place .ensures) at (c .before .before .before .before .before .before .before .put-decimal2 .ensures)) (c .before .before .put3 .ensures))));
+      short = refused-length _ _ (omega (arith, c .before .before .before .before .before .before .before .before .before .before .before .before .before .before .before .before .before .before .before .before .before .before .before .before .number .ensures, c .before .before .before .before .before .before .before .before .before .before .before .before .before .before .before .before .before .before .before .before .before .before .before .before .number .ok)) (omega (arith, c .before .before .before .before .before .before .before .before .before .before .before .before .before .before .before .before .before .before .before .before .before .before .before .place .ensures, c .before .before .before .before .before .before .before .before .before .before .before .before .before .before .before .before .before .before .before .before .before .before .before .place .ok));
     }
 
 pub put-refusal-spec : {M : Type 1} → statement M
 put-refusal-spec =
     tie.close
     (tie.spec
-    (λ c. search needs)
-    (λ c κs. search needs)
     (λ c κs. search needs)
     (λ c. search needs)
     (λ c κs. search needs)
     (λ c. search needs)
     (λ c κs. search needs)
+    (λ c κs. search needs)
+    (λ c. search needs)
     (λ c κs. search needs)
     (λ c κs. search needs)
     (λ c. search needs)

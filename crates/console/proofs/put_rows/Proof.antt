@@ -8,42 +8,18 @@ use borrow.Author.Needs.{needs}
 use Rattle.console.proofs.put_rows.Statement.{statement}
 use Rattle.console.proofs.put_rows.Tie as tie
 
-outputs-requires : tie.Need-outputs-requires
-outputs-requires c κs = search needs
-
-array-borrow-prefix-outputs : tie.Need-array-borrow-prefix-outputs
-array-borrow-prefix-outputs c = search needs
-
 slice-aggregate-run : tie.Need-slice-aggregate-run
 slice-aggregate-run c = sym (length-take-le _ _ (omega arith))
-
-run-requires : tie.Need-run-requires
-run-requires c κs = search needs
-
-enum-told : tie.Need-enum-told
-enum-told c = search needs
 
 put-run-requires : tie.Need-put-run-requires
 put-run-requires c κs =
     let p = c .before .before .before .before .before .before .before .before .before .pre in
     (p .0, run-rows (p .0 .sound) _ _ (p .1 .0) (p .1 .1) ∙ run-passed (p .0 .sound) (c .before .before .before .before .run .ensures) _ (length-take-le _ _ (omega arith)) (p .1 .0) (p .1 .1) (c .before .enum-told .given .1))
 
-enum-known-ran : tie.Need-enum-known-ran
-enum-known-ran c = search needs
-
-put-refusal-requires : tie.Need-put-refusal-requires
-put-refusal-requires c κs = search needs
-
-same-length : tie.Need-same-length
-same-length c = search needs
-
 returns : tie.Need-returns
 returns c =
     let p = c .before .before .before .before .before .before .before .before .before .before .before .before .pre in
     rw (run-passed (p .0 .sound) (c .before .before .before .before .before .before .before .run .ensures) _ (length-take-le _ _ (omega arith)) (p .1 .0) (p .1 .1) (c .before .before .before .before .enum-told .given .1)) (c .before .before .put-run .ensures)
-
-same-length-2 : tie.Need-same-length-2
-same-length-2 c = search needs
 
 returns-2 : tie.Need-returns-2
 returns-2 c =
@@ -54,15 +30,15 @@ pub put-rows-spec : {M : Type 1} → statement M
 put-rows-spec =
     tie.close
     (tie.spec
-    outputs-requires
-    array-borrow-prefix-outputs
+    (λ c κs. search needs)
+    (λ c. search needs)
     slice-aggregate-run
-    run-requires
-    enum-told
+    (λ c κs. search needs)
+    (λ c. search needs)
     put-run-requires
-    enum-known-ran
-    put-refusal-requires
-    same-length
+    (λ c. search needs)
+    (λ c κs. search needs)
+    (λ c. search needs)
     returns
-    same-length-2
+    (λ c. search needs)
     returns-2)
