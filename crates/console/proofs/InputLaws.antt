@@ -12,6 +12,7 @@ use lib.Seq.{take-at, take-all}
 use borrow.Author.Tests.{ltb-true, ltb-false, lt-ltb, le-ltb, not-false, eqb-true}
 use Rattle.finite.proofs.Tests.{by-test}
 use Rattle.finite.proofs.GatherLaws.{length-gather-all}
+use Rattle.text.specs.Text.{Prints}
 use Rattle.sheet.specs.Ruling.{Ruling, passed, refused, rule, _then_, numberOf, placeOf}
 use Rattle.sheet.specs.Bytes.{stated, columns}
 use Rattle.sheet.specs.declared.Sheet.{Sheet}
@@ -24,8 +25,8 @@ use Rattle.rules.proofs.CheckLaws.{rules-exactly, check-exactly}
 use Rattle.engine.specs.Rows.{rowRule, rowAt}
 use Rattle.engine.specs.Operations.{maxRows}
 use Rattle.engine.proofs.Demands.{answer-turned, meaning}
-use Rattle.console.specs.Sheetrun.{maxInput, sheetIn, rest, intAt, ints, brokenRows, rowsIn, ticksBy, ticks, restRules, inputRules, PrintedBy, Printed}
-use Rattle.console.specs.Printing.{AcceptedAs, Prints, maxInts}
+use Rattle.console.specs.Sheetrun.{maxInput, sheetIn, rest, intAt, ints, brokenRows, rowsIn, ticksBy, ticks, restRules, inputRules, PrintedBy, Printed, maxOutput}
+use Rattle.console.specs.Printing.{AcceptedAs, maxInts}
 
 -- what Check answers
 pub accepted-as : (s : List ℕ) {r : Checked} {z : Sheet} → said r ≡ check s → r ≡ Accepted z → AcceptedAs s z
@@ -93,8 +94,8 @@ module _ {s : List ℕ} {z : Sheet} (k : AcceptedAs s z) (after : List ℕ) {bro
     pub rest-fits : T ≤ maxRows → length after / 4 ≤ maxInts
     rest-fits l = omega (arith, rest-whole, k .few-columns, k .columns-are, mul-le-mul-right (columns s) l)
 
-    pub prints-rest : T ≤ maxRows → {old new : List ℕ} {r : ℕ} → Prints (PrintedBy (rowRule s (ints after)) s (ints after) T) old new r →
-        Prints (PrintedBy (restRules s after) s (ints after) (ticksBy (columns s) (length after))) old new r
+    pub prints-rest : T ≤ maxRows → {old new : List ℕ} {r : ℕ} → Prints maxOutput (PrintedBy (rowRule s (ints after)) s (ints after) T) old new r →
+        Prints maxOutput (PrintedBy (restRules s after) s (ints after) (ticksBy (columns s) (length after))) old new r
     prints-rest l p = rw (rest-rows l, ← k .columns-are, ← e) p
 
 -- ---- the input
@@ -135,7 +136,7 @@ module _ (input : List ℕ) where
 
 -- an input that is not too long, cut into a sheet that is accepted and the rest
 pub prints-input : (input : List ℕ) {z : Sheet} {s after : List ℕ} {old new : List ℕ} {r : ℕ} → length input ≤ maxInput → s ≡ sheetIn input → after ≡ rest input → AcceptedAs s z →
-    Prints (PrintedBy (restRules s after) s (ints after) (ticksBy (columns s) (length after))) old new r → Prints (Printed input) old new r
+    Prints maxOutput (PrintedBy (restRules s after) s (ints after) (ticksBy (columns s) (length after))) old new r → Prints maxOutput (Printed input) old new r
 unfolding rowsIn ticks
 prints-input input l e q k p = rw (input-rest input l (rw e at (k .sound))) (rw (e, q) at p)
 

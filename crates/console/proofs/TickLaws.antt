@@ -8,8 +8,9 @@ use lib.IntN.{ℤ}
 use lib.ListN.{length, drop, length-drop}
 use lib.Seq.{length-take-le}
 use borrow.Author.Tests.{le-ltb, eq-eqb}
-use Rattle.text.specs.Text.{Appends}
-use Rattle.text.proofs.TextLaws.{append-none}
+use Rattle.finite.specs.Lists.{joined}
+use Rattle.text.specs.Text.{Appends, Puts, Prints}
+use Rattle.text.proofs.TextLaws.{append-none, puts-then, is-word, prints}
 use Rattle.sheet.specs.Ruling.{passed, refused, rule, _then_, turned, numberOf, placeOf}
 use Rattle.sheet.specs.Bytes.{nodes, columns}
 use Rattle.sheet.specs.declared.Sheet.{Sheet}
@@ -32,9 +33,9 @@ use Rattle.engine.specs.declared.Ran.the-variants.{Finished, Refused as NotRun}
 use Rattle.engine.proofs.RuleLaws.{by-ruling, run-exactly}
 use Rattle.engine.proofs.RunLaws.{row-end}
 use Rattle.engine.proofs.Demands.{meaning, tick-meant, Meant, run-values, refused-run}
-use Rattle.console.specs.Sheetrun.{ticks, okLine, tickLine, tickLines, PrintedBy}
-use Rattle.console.specs.Printing.{Puts, AcceptedAs, Prints, maxLine, TicksPut}
-use Rattle.console.proofs.LineLaws.{ok-length, puts-then, is-word, prints}
+use Rattle.console.specs.Sheetrun.{ticks, okLine, tickLine, tickLines, PrintedBy, maxOutput}
+use Rattle.console.specs.Printing.{AcceptedAs, maxLine, TicksPut}
+use Rattle.console.proofs.LineLaws.{ok-length}
 
 -- ---- the ticks
 
@@ -47,7 +48,7 @@ row-wide s rows T {t} l b =
     length-take-le (columns s) (drop (t * columns s) rows) (rw length-drop (omega (arith, row-end T {t = t} {c = columns s} l refl b)))
 
 pub ticks-none : {s : List ℕ} {rows cells values : List ℤ} {out : List ℕ} {at : ℕ} → cells ≡ startCells s → length values ≡ nodes s → TicksPut s rows 0 cells values out out at at
-unfolding tickLines
+unfolding tickLines joined
 ticks-none {s} {out = out} {at = at} c v =
     record {
       cells-size = rw c (length-start s);
@@ -73,7 +74,7 @@ module _ {s : List ℕ} {rows : List ℤ} {T : ℕ} (p : runRules s rows T ≡ p
   -- one more, with its line
   pub ticks-more : {a : Answer} {last : List ℕ} {next : ℕ} → r ≡ Done a → Puts maxLine (tickLine t (a .root) (a .lowest)) after last end next →
       TicksPut s rows (t + 1) cells′ values′ before last at next
-  unfolding tickLines answerOf
+  unfolding tickLines joined answerOf
   ticks-more {a} q u =
       let (X₀, m₀, one) = meaning (run-sound rows T p) (rowAt s rows) in
       let h = meant X₀ m₀ in
@@ -123,7 +124,7 @@ module _ {s : List ℕ} (z : Sound s) {rows old : List ℤ} {r : Ran} {new : Lis
 pub prints-run : {s : List ℕ} {z : Sheet} (rows : List ℤ) (T : ℕ) {before between after : List ℕ} {at r : ℕ} → AcceptedAs s z → runRules s rows T ≡ passed →
     Appends (okLine (z .nodes) (z .columns) (z .slots) (z .root)) before between 0 at →
     ((X : ℕ → ℕ → ℤ) → Means s (rowAt s rows) X → Puts (maxLine * T) (tickLines s X T) between after at r) →
-    Prints (PrintedBy passed s rows T) before after r
+    Prints maxOutput (PrintedBy passed s rows T) before after r
 prints-run {s} {z} rows T {before} {after = after} {r = r} k p first ticks =
     let few = run-exactly s rows T .0 p .2 in
     let (X₀, m₀, one) = meaning (k .sound) (rowAt s rows) in
@@ -132,4 +133,4 @@ prints-run {s} {z} rows T {before} {after = after} {r = r} k p first ticks =
     let all : (X : ℕ → ℕ → ℤ) → Means s (rowAt s rows) X →
     Puts (20 + maxLine * T) (okLine (nodes s) (columns s) (slots s) (typeAt s 0) ++ tickLines s X T) before after 0 r =
     λ X m. rw (k .nodes-are, k .columns-are, k .slots-are, k .root-is) at (puts-then line (ticks X m)) in
-    prints (all X₀ m₀) (PrintedBy passed s rows T) (λ room X m. is-word (all X m) (omega arith) room)
+    prints (all X₀ m₀) maxOutput (PrintedBy passed s rows T) (λ room X m. is-word (all X m) maxOutput (omega arith) room)

@@ -3,8 +3,8 @@ use Prim.Native.Nat.{ℕ, _*_, _≤_}
 use mathlib.Core.Path.{_≡_}
 use mathlib.Core.List.{List}
 use lib.IntN.{ℤ}
-use lib.ListN.{length, take}
-use Rattle.text.specs.Text.{Appends}
+use lib.ListN.{length}
+use Rattle.text.specs.Text.{Puts}
 use Rattle.sheet.specs.Ceilings.{maxColumns, maxNodes, maxSlots}
 use Rattle.sheet.specs.Bytes.{nodes, columns}
 use Rattle.sheet.specs.declared.Sheet.{Sheet}
@@ -15,12 +15,7 @@ use Rattle.meaning.specs.Equations.{Means}
 use Rattle.meaning.specs.Cells.{cellsAt}
 use Rattle.engine.specs.Rows.{rowAt}
 use Rattle.engine.specs.Operations.{maxRows}
-use Rattle.console.specs.Sheetrun.{tickLines, maxOutput}
-
--- a word of at most so many bytes is appended
-pub record Puts (most : ℕ) (word before after : List ℕ) (at r : ℕ) : Type 0 where
-  pub appends : Appends word before after at r
-  pub short : length word ≤ most
+use Rattle.console.specs.Sheetrun.{tickLines}
 
 -- what Check's answer says of an accepted sheet
 pub record AcceptedAs (s : List ℕ) (z : Sheet) : Type 0 where
@@ -33,13 +28,6 @@ pub record AcceptedAs (s : List ℕ) (z : Sheet) : Type 0 where
   pub few-nodes : z .nodes ≤ maxNodes
   pub few-columns : z .columns ≤ maxColumns
   pub few-slots : z .slots ≤ maxSlots
-
--- the buffer's first r bytes are the text that P says, if there is room for any text. In any case the buffer keeps its length and has r bytes
-pub record Prints (P : List ℕ → Type 0) (before after : List ℕ) (r : ℕ) : Type 0 where
-  pub same-length : length after ≡ length before
-  pub inside : r ≤ length after
-  pub counted : r ≡ length (take r after)
-  pub text : maxOutput ≤ length before → P (take r after)
 
 -- the most ints that rows can have: 256 rows of 16
 abbrev pub maxInts : ℕ

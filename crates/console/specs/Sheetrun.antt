@@ -6,13 +6,13 @@ use mathlib.Core.List.{List, [], _∷_, _++_}
 use lib.Dec.{ltb, eqb}
 use lib.IntN.{ℤ}
 use lib.ListN.{length, take, drop}
-use Rattle.finite.specs.Lists.{gather}
+use Rattle.finite.specs.Lists.{gather, joined}
 use Rattle.number.specs.Word.{word, signed}
-use Rattle.text.specs.Text.{decimal, integer}
+use Rattle.text.specs.Text.{decimal, integer, space, feed}
 use Rattle.sheet.specs.Ruling.{Ruling, passed, refused, rule, _then_}
 use Rattle.sheet.specs.Bytes.{byte, stated, nodes, columns}
 use Rattle.sheet.specs.declared.ValueType.{ValueType}
-use Rattle.sheet.specs.declared.ValueType.the-variants.{Bool as bool, Int as int}
+use Rattle.words.specs.Words.{typeWord, refusedLine}
 use Rattle.rules.specs.Types.{typeAt}
 use Rattle.rules.specs.Slots.{slots}
 use Rattle.rules.specs.Check.{rules}
@@ -72,22 +72,6 @@ inputRules input = rule (ltb maxInput (length input)) 1 0 then rules (sheetIn in
 
 -- THE LINES
 
--- one space, and a line feed
-abbrev pub space : List ℕ
-space = 32 ∷ []
-
-abbrev pub feed : List ℕ
-feed = 10 ∷ []
-
--- "refused number place"
-unfoldable pub refusedLine : (number place : ℕ) → List ℕ
-refusedLine number place =
-    (114 ∷ 101 ∷ 102 ∷ 117 ∷ 115 ∷ 101 ∷ 100 ∷ 32 ∷ []) ++ (decimal number ++ (space ++ (decimal place ++ feed)))
-
-abbrev pub typeWord : ValueType → List ℕ
-typeWord bool = 98 ∷ 111 ∷ 111 ∷ 108 ∷ []
-typeWord int = 105 ∷ 110 ∷ 116 ∷ []
-
 -- "ok N C S type with the root's type as bool or int"
 unfoldable pub okLine : (N C S : ℕ) → ValueType → List ℕ
 okLine N C S type =
@@ -111,8 +95,7 @@ tickLine t value w = decimal t ++ (space ++ (integer value ++ (space ++ (lowestW
 
 -- the lines of the first T ticks, where X t i is node i's value at tick t
 unfoldable pub tickLines : List ℕ → (X : ℕ → ℕ → ℤ) → (T : ℕ) → List ℕ
-tickLines s X zero = []
-tickLines s X (suc t) = tickLines s X t ++ tickLine t (X t 0) (lowestFailing s (X t))
+tickLines s X T = joined (λ t. tickLine t (X t 0) (lowestFailing s (X t))) T
 
 -- all that is printed of a sheet and T rows. A refusal names no values: a refused sheet may have none that meet the equations
 abbrev pub PrintedBy : Ruling → (s : List ℕ) → (rows : List ℤ) → (T : ℕ) → (out : List ℕ) → Type 0

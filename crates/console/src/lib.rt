@@ -8,20 +8,19 @@ use rules::Checked;
 use sheet::Lent;
 use sheet::Refusal;
 use sheet::Sheet;
-use sheet::ValueType;
 ghost use mathlib.Core.Path.{_≡_};
 ghost use Prim.Native.Nat.{ℕ, _+_, _*_, _/_, _<_, _≤_, min};
 ghost use lib.IntN.{ℤ};
 ghost use lib.ListN.{length};
-ghost use Rattle.text.specs.Text.{Appends};
-ghost use Rattle.sheet.specs.Ruling.{passed, numberOf, placeOf};
+ghost use Rattle.text.specs.Text.{Appends, Puts, Prints};
+ghost use Rattle.sheet.specs.Ruling.{passed};
 ghost use Rattle.sheet.specs.Bytes as bytes;
 ghost use Rattle.rules.specs.Slots.{slots};
 ghost use Rattle.meaning.specs.Equations.{Means};
 ghost use Rattle.engine.specs.Rows.{rowRule, rowAt};
 ghost use Rattle.engine.specs.Operations.{maxRows, runRules};
 ghost use Rattle.console.specs.Sheetrun as printed;
-ghost use Rattle.console.specs.Printing.{Puts, Prints, AcceptedAs, maxInts, maxLine};
+ghost use Rattle.console.specs.Printing.{AcceptedAs, maxInts, maxLine};
 
 // An input: how many of its first bytes are the sheet. The rest are rows.
 pub struct Input {
@@ -79,27 +78,6 @@ impl Input {
 
 // The lines.
 
-pub fn put_refusal(out: &mut [u8], at: usize, r: Refusal) -> usize
-    ensures { λ n. ⌜ Puts 33 (printed.refusedLine (numberOf r) (placeOf r)) (now (out .entry)) (now (out .exit)) at n ⌝ }
-{
-    let number = r.number() as u64;
-    let place = r.place() as u64;
-    let at = text::put(out, at, b"refused ");
-    let at = text::put_decimal(out, at, number);
-    let at = text::put(out, at, b" ");
-    let at = text::put_decimal(out, at, place);
-    text::put(out, at, b"\n")
-}
-
-fn put_type(out: &mut [u8], at: usize, t: ValueType) -> usize
-    ensures { λ n. ⌜ Appends (printed.typeWord t) (now (out .entry)) (now (out .exit)) at n ⌝ }
-{
-    match t {
-        ValueType::Bool => text::put(out, at, b"bool"),
-        ValueType::Int => text::put(out, at, b"int"),
-    }
-}
-
 pub fn put_ok(out: &mut [u8], at: usize, z: Sheet) -> usize
     ensures { λ n. ⌜ Appends (printed.okLine (z .nodes) (z .columns) (z .slots) (z .root)) (now (out .entry)) (now (out .exit)) at n ⌝ }
 {
@@ -111,7 +89,7 @@ pub fn put_ok(out: &mut [u8], at: usize, z: Sheet) -> usize
     let at = text::put_decimal(out, at, z.slots as u64);
     let at = text::put(out, at, b" ");
     let root = z.root;
-    let at = put_type(out, at, root);
+    let at = words::put_type(out, at, root);
     text::put(out, at, b"\n")
 }
 
@@ -244,7 +222,7 @@ fn put_ticks(
 fn put_run(s: &[u8], z: Sheet, rows: &[i32], ticks: usize, out: &mut [u8]) -> usize
     requires { ⌜ AcceptedAs (now s) z ⌝ }
     requires { ⌜ runRules (now s) (now rows) ticks ≡ passed ⌝ }
-    ensures { λ r. ⌜ Prints (printed.PrintedBy passed (now (s .entry)) (now (rows .entry)) ticks) (now (out .entry)) (now (out .exit)) r ⌝ }
+    ensures { λ r. ⌜ Prints printed.maxOutput (printed.PrintedBy passed (now (s .entry)) (now (rows .entry)) ticks) (now (out .entry)) (now (out .exit)) r ⌝ }
 {
     let mut order = Sheet::fresh();
     let mut cells = RunState::cells();
@@ -269,13 +247,13 @@ fn put_run(s: &[u8], z: Sheet, rows: &[i32], ticks: usize, out: &mut [u8]) -> us
 fn put_rows(s: &[u8], z: Sheet, rows: &[i32], ticks: usize, out: &mut [u8]) -> usize
     requires { ⌜ AcceptedAs (now s) z ⌝ }
     requires { ⌜ (length (now rows) ≡ ticks * bytes.columns (now s)) × (ticks ≤ maxRows) ⌝ }
-    ensures { λ r. ⌜ Prints (printed.PrintedBy (rowRule (now (s .entry)) (now (rows .entry))) (now (s .entry)) (now (rows .entry)) ticks) (now (out .entry)) (now (out .exit)) r ⌝ }
+    ensures { λ r. ⌜ Prints printed.maxOutput (printed.PrintedBy (rowRule (now (s .entry)) (now (rows .entry))) (now (s .entry)) (now (rows .entry)) ticks) (now (out .entry)) (now (out .exit)) r ⌝ }
 {
     let mut outputs = Input::outputs();
     let ran = engine::run(s, rows, &mut outputs[..ticks]);
     match ran {
         Ran::Finished(_) => put_run(s, z, rows, ticks, out),
-        Ran::Refused(r) => put_refusal(out, 0, r),
+        Ran::Refused(r) => words::put_refusal(out, 0, r),
     }
 }
 
@@ -283,7 +261,7 @@ fn put_rows(s: &[u8], z: Sheet, rows: &[i32], ticks: usize, out: &mut [u8]) -> u
 fn put_ints(s: &[u8], z: Sheet, rest: &[u8], ticks: usize, out: &mut [u8]) -> usize
     requires { ⌜ AcceptedAs (now s) z ⌝ }
     requires { ⌜ (length (now rest) / 4 ≡ ticks * bytes.columns (now s)) × (ticks ≤ maxRows) × (length (now rest) / 4 ≤ maxInts) ⌝ }
-    ensures { λ r. ⌜ Prints (printed.PrintedBy (rowRule (now (s .entry)) (printed.ints (now (rest .entry)))) (now (s .entry)) (printed.ints (now (rest .entry))) ticks) (now (out .entry)) (now (out .exit)) r ⌝ }
+    ensures { λ r. ⌜ Prints printed.maxOutput (printed.PrintedBy (rowRule (now (s .entry)) (printed.ints (now (rest .entry)))) (now (s .entry)) (printed.ints (now (rest .entry))) ticks) (now (out .entry)) (now (out .exit)) r ⌝ }
 {
     let n = rest.len() / 4;
     let mut ints = Input::ints();
@@ -294,30 +272,30 @@ fn put_ints(s: &[u8], z: Sheet, rest: &[u8], ticks: usize, out: &mut [u8]) -> us
 // An accepted sheet, and the bytes after it.
 fn put_rest(s: &[u8], z: Sheet, rest: &[u8], out: &mut [u8]) -> usize
     requires { ⌜ AcceptedAs (now s) z ⌝ }
-    ensures { λ r. ⌜ Prints (printed.PrintedBy (printed.restRules (now (s .entry)) (now (rest .entry))) (now (s .entry)) (printed.ints (now (rest .entry))) (printed.ticksBy (bytes.columns (now (s .entry))) (length (now (rest .entry))))) (now (out .entry)) (now (out .exit)) r ⌝ }
+    ensures { λ r. ⌜ Prints printed.maxOutput (printed.PrintedBy (printed.restRules (now (s .entry)) (now (rest .entry))) (now (s .entry)) (printed.ints (now (rest .entry))) (printed.ticksBy (bytes.columns (now (s .entry))) (length (now (rest .entry))))) (now (out .entry)) (now (out .exit)) r ⌝ }
 {
     let bytes = rest.len();
     if broken_rows(z.columns, bytes) {
-        return put_refusal(out, 0, Refusal::Lent(Lent::Rows));
+        return words::put_refusal(out, 0, Refusal::Lent(Lent::Rows));
     }
     let ticks = ticks_in(z.columns, bytes);
     if RunState::ROWS < ticks {
-        return put_refusal(out, 0, Refusal::Lent(Lent::Outputs));
+        return words::put_refusal(out, 0, Refusal::Lent(Lent::Outputs));
     }
     put_ints(s, z, rest, ticks, out)
 }
 
 // All that sheetrun prints of an input, at the start of `out`; what is returned is its length.
 pub fn sheetrun(input: &[u8], out: &mut [u8]) -> usize
-    ensures { λ r. ⌜ Prints (printed.Printed (now (input .entry))) (now (out .entry)) (now (out .exit)) r ⌝ }
+    ensures { λ r. ⌜ Prints printed.maxOutput (printed.Printed (now (input .entry))) (now (out .entry)) (now (out .exit)) r ⌝ }
 {
     if Input::BYTES < input.len() {
-        return put_refusal(out, 0, Refusal::Length);
+        return words::put_refusal(out, 0, Refusal::Length);
     }
     let cut = Input::cut(input).sheet;
     let checked = rules::check(&input[..cut]);
     match checked {
-        Checked::Refused(r) => put_refusal(out, 0, r),
+        Checked::Refused(r) => words::put_refusal(out, 0, r),
         Checked::Accepted(z) => put_rest(&input[..cut], z, &input[cut..], out),
     }
 }

@@ -11,10 +11,10 @@ use Rattle.finite.specs.Count.{count}
 use Rattle.finite.proofs.Tests.{by-test, and-l, and-r, and-both, and-cases, and-not-l}
 use Rattle.finite.proofs.CountLaws.{count-yes, count-no, count-lt}
 use Rattle.sheet.specs.Ceilings.{maxDepth, maxSlots}
-use Rattle.sheet.specs.Ruling.{Ruling, passed, refused, accepted, turned, answer}
+use Rattle.sheet.specs.Ruling.{passed, refused, accepted, turned}
 use Rattle.sheet.specs.Bytes.{nodes, kindAt, argument, isVar}
 use Rattle.sheet.specs.declared.Sheet.{Sheet}
-use Rattle.sheet.proofs.RulingLaws.{each-passed, then-passed, answer-accepted, one-refusal}
+use Rattle.sheet.proofs.RulingLaws.{each-passed, then-passed, answer-accepted, answer-turned, one-refusal}
 use Rattle.sheet.proofs.FormLaws.{form-iff}
 use Rattle.rules.specs.Scope.{depth, scoped, isRec, guarded, fbyAt}
 use Rattle.rules.specs.Types.{mistyped}
@@ -123,9 +123,5 @@ one-checked (Refused a) (Refused b) e = ap Refused (one-refusal a b (cc) (cc))
 
 -- a refusal of Check is that of rules 1 to 11
 pub check-turned : (s : List ℕ) (number place : ℕ) → turned number place ≡ check s → rules s ≡ refused number place
-unfolding check answer
-check-turned s number place = go (rules s)
-  where
-    go : (r : Ruling) → turned number place ≡ answer r (sheet s) → r ≡ refused number place
-    go passed e = let z : _≡_ {A = ℕ} 0 1 = cc in absurd (omega arith)
-    go (refused n p) e = let x : n ≡ number = cc in let y : p ≡ place = cc in rw (x, y)
+unfolding check
+check-turned s number place = answer-turned (rules s) (sheet s) number place

@@ -10,12 +10,12 @@ use lib.Dec.{ltb}
 use borrow.Author.Tests.{ltb-false, le-ltb}
 use Rattle.finite.specs.Lowest.{lowest}
 use Rattle.finite.proofs.LowestLaws as low
-use Rattle.sheet.specs.Ruling.{Ruling, passed, refused, rule, each, _then_, accepted, answer, lentPlace, numberOf, placeOf, told}
+use Rattle.sheet.specs.Ruling.{Ruling, passed, refused, rule, each, _then_, accepted, turned, answer, lentPlace, numberOf, placeOf, told}
 use Rattle.sheet.specs.declared.Node.{Node}
 use Rattle.sheet.specs.declared.Lent.{Lent}
-use Rattle.sheet.specs.declared.Lent.the-variants.{Rows, Cells, Order as Orders, Values, Outputs}
+use Rattle.sheet.specs.declared.Lent.the-variants.{Rows, Cells, Order as Orders, Values, Outputs, Room}
 use Rattle.sheet.specs.declared.Refusal.{Refusal}
-use Rattle.sheet.specs.declared.Refusal.the-variants.{Length, Version, Columns, Body, Record, Shape, Depth, Scope, Types, Unguarded, Slots, Lent as WrongLength, Row, Cell, Order}
+use Rattle.sheet.specs.declared.Refusal.the-variants.{Length, Version, Columns, Body, Record, Shape, Depth, Scope, Types, Unguarded, Slots, Lent as WrongLength, Row, Cell, Order, Text}
 use Rattle.sheet.specs.declared.Judged.{Judged}
 use Rattle.sheet.specs.declared.Judged.the-variants.{Passed, Refused}
 
@@ -49,17 +49,22 @@ unfolding answer
 answer-accepted passed a x = (λ e. (refl, cc), λ e. ap accepted (e .1))
 answer-accepted (refused number place) a x = (λ e. let z : _≡_ {A = ℕ} 0 1 = cc in absurd (omega arith), λ e. not-passed number place (e .0))
 
+pub answer-turned : {A : Type 0} (r : Ruling) (a : A) (number place : ℕ) → turned number place ≡ answer r a → r ≡ refused number place
+unfolding answer
+answer-turned passed a number place e = let z : _≡_ {A = ℕ} 0 1 = cc in absurd (omega arith)
+answer-turned (refused n p) a number place e = let x : n ≡ number = cc in let y : p ≡ place = cc in rw (x, y)
+
 -- ---- number and place tell the refusal
 
 abbrev lentAt : ℕ → Lent
-lentAt place = getD (Rows ∷ Rows ∷ Cells ∷ Orders ∷ Values ∷ []) place Outputs
+lentAt place = getD (Rows ∷ Rows ∷ Cells ∷ Orders ∷ Values ∷ Outputs ∷ []) place Room
 
 refusalAt : (number place : ℕ) → Refusal
 refusalAt number place =
     let node : Node = record { 0 = place } in
     getD
-    (Length ∷ Length ∷ Version ∷ Columns place ∷ Body ∷ Record node ∷ Shape node ∷ Depth node ∷ Scope node ∷ Types node ∷ Unguarded node ∷ Slots node ∷ WrongLength (lentAt place) ∷ Row place ∷ Cell (record { 0 = place }) ∷ [])
-    number (Order (record { 0 = place }))
+    (Length ∷ Length ∷ Version ∷ Columns place ∷ Body ∷ Record node ∷ Shape node ∷ Depth node ∷ Scope node ∷ Types node ∷ Unguarded node ∷ Slots node ∷ WrongLength (lentAt place) ∷ Row place ∷ Cell (record { 0 = place }) ∷ Order (record { 0 = place }) ∷ [])
+    number Text
 
 lent-back : (slice : Lent) → lentAt (lentPlace slice) ≡ slice
 lent-back Rows = refl
@@ -67,6 +72,7 @@ lent-back Cells = refl
 lent-back Orders = refl
 lent-back Values = refl
 lent-back Outputs = refl
+lent-back Room = refl
 
 back : (r : Refusal) → refusalAt (numberOf r) (placeOf r) ≡ r
 unfolding refusalAt
@@ -85,6 +91,7 @@ back (WrongLength slice) = ap WrongLength (lent-back slice)
 back (Row at) = refl
 back (Cell j) = refl
 back (Order p) = refl
+back Text = refl
 
 pub one-refusal : (a b : Refusal) → numberOf a ≡ numberOf b → placeOf a ≡ placeOf b → a ≡ b
 one-refusal a b n p = sym (back a) ∙ rw (n, p) (back b)

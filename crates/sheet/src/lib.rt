@@ -91,6 +91,7 @@ pub enum Lent {
     Order,
     Values,
     Outputs,
+    Room,
 }
 
 // A refusal: the rule, with its place where it has several.
@@ -110,6 +111,7 @@ pub enum Refusal {
     Row(usize),
     Cell(Slot),
     Order(Position),
+    Text,
 }
 
 pub enum Judged {
@@ -118,7 +120,7 @@ pub enum Judged {
 }
 
 impl Refusal {
-    // Document 01's number of a refusal, and its place.
+    // A refusal's number and place.
 
     pub fn number(self) -> u8
         ensures { λ r. ⌜ r ≡ numberOf self ⌝ }
@@ -139,6 +141,7 @@ impl Refusal {
             Refusal::Row(_) => 13,
             Refusal::Cell(_) => 14,
             Refusal::Order(_) => 15,
+            Refusal::Text => 16,
         }
     }
 
@@ -161,6 +164,7 @@ impl Refusal {
             Refusal::Row(at) => at,
             Refusal::Cell(j) => j.0 as usize,
             Refusal::Order(p) => p.0 as usize,
+            Refusal::Text => 0,
         }
     }
 }
@@ -174,6 +178,7 @@ fn lent_place(slice: Lent) -> usize
         Lent::Order => 3,
         Lent::Values => 4,
         Lent::Outputs => 5,
+        Lent::Room => 7,
     }
 }
 
@@ -274,7 +279,7 @@ fn plain(code: u8, kind: Kind) -> Kind
     if code == 0 { kind } else { Kind::Unknown }
 }
 
-fn kind_of(kind: u8, code: u8) -> Kind
+pub fn kind_of(kind: u8, code: u8) -> Kind
     ensures { λ r. ⌜ r ≡ bytes.kindOf kind code ⌝ }
 {
     match kind {

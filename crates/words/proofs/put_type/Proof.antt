@@ -1,7 +1,7 @@
--- `console::put_type` meets its contract: each case has its word. Assumes nothing.
+-- `words::put_type` meets its contract: each case has its word. Assumes nothing.
 use borrow.Author.Needs.{needs}
-use Rattle.console.proofs.put_type.Statement.{statement}
-use Rattle.console.proofs.put_type.Tie as tie
+use Rattle.words.proofs.put_type.Statement.{statement}
+use Rattle.words.proofs.put_type.Tie as tie
 
 returns : tie.Need-returns
 returns c = rw (c .before .before .before .before .before .enum-told .given .1) (c .before .before .put .ensures)

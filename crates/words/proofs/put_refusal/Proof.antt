@@ -1,11 +1,11 @@
--- `console::put_refusal` meets its contract, word by word. Assumes nothing.
+-- `words::put_refusal` meets its contract, word by word. Assumes nothing.
 use native.Mathlib.Omega.{arith}
 use Rattle.text.proofs.TextLaws.{append-then}
-use Rattle.console.specs.Sheetrun.{refusedLine}
-use Rattle.console.proofs.LineLaws.{refused-length}
+use Rattle.words.specs.Words.{refusedLine}
+use Rattle.words.proofs.WordLaws.{refused-length}
 use borrow.Author.Needs.{needs}
-use Rattle.console.proofs.put_refusal.Statement.{statement}
-use Rattle.console.proofs.put_refusal.Tie as tie
+use Rattle.words.proofs.put_refusal.Statement.{statement}
+use Rattle.words.proofs.put_refusal.Tie as tie
 
 returns : tie.Need-returns
 unfolding refusedLine

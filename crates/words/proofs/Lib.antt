@@ -1,0 +1,2 @@
+-- How long the words are.
+pub mod WordLaws

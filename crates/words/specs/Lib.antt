@@ -1,0 +1,2 @@
+-- The words that more than one program prints.
+pub mod Words
