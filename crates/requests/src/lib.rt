@@ -2,11 +2,13 @@
 use engine::Answer;
 use engine::Ran;
 use engine::Ticked;
+use listing::Listed;
 use rules::Checked;
 use sheet::Judged;
 use sheet::Refusal;
 
-// A request: its letter, and how many sheet bytes, ints of the rows, cells, order entries, and values or outputs it has.
+// A request: its letter, and how many sheet bytes or bytes of text, ints of the rows, cells, order entries, and values, outputs or bytes
+// of room it has.
 struct Request {
     letter: u8,
     sheet: usize,
@@ -28,8 +30,13 @@ impl Request {
     const OUT: usize = 16384;
 }
 
-// What values and outputs are lent with.
+// What values and outputs are lent with, the writer's room and the reader's.
+
 const LENT: i32 = -1431655766;
+
+const LENT_TEXT: u8 = 35;
+
+const LENT_BYTES: u8 = 170;
 
 fn say(words: &[u8]) {
     io::write_all(1, words);
@@ -48,15 +55,19 @@ fn end_line(line: &mut [u8; 4096], at: usize) {
 
 // A lent slice: its name and its entries. A line that gets long is written out in pieces.
 
-fn put_entry(line: &mut [u8; 4096], at: usize, v: i32) -> usize {
-    let at = text::put(line, at, b" ");
-    let at = text::put_integer(line, at, v);
+fn in_pieces(line: &mut [u8; 4096], at: usize) -> usize {
     if 4000 < at {
         say_line(line, at);
         0
     } else {
         at
     }
+}
+
+fn put_entry(line: &mut [u8; 4096], at: usize, v: i32) -> usize {
+    let at = text::put(line, at, b" ");
+    let at = text::put_integer(line, at, v);
+    in_pieces(line, at)
 }
 
 fn say_ints(name: &[u8], xs: &[i32]) {
@@ -81,11 +92,45 @@ fn say_entries(name: &[u8], xs: &[u16]) {
     end_line(&mut line, at);
 }
 
+fn say_text(name: &[u8], text: &[u8]) {
+    say(name);
+    if 0 < text.len() {
+        say(b" ");
+        say(text);
+    }
+    say(b"\n");
+}
+
+fn hexadecimal(digit: u8) -> u8 {
+    if digit < 10 {
+        b'0' + digit
+    } else {
+        b'a' - 10 + digit % 16
+    }
+}
+
+fn put_byte(line: &mut [u8; 4096], at: usize, b: u8) -> usize {
+    let word = [b' ', hexadecimal(b / 16), hexadecimal(b % 16)];
+    let at = text::put(line, at, &word);
+    in_pieces(line, at)
+}
+
+fn say_bytes(name: &[u8], xs: &[u8]) {
+    let mut line = io::buffer();
+    let mut at = text::put(&mut line, 0, name);
+    let mut i = 0;
+    while i < xs.len() {
+        at = put_byte(&mut line, at, xs[i]);
+        i += 1;
+    }
+    end_line(&mut line, at);
+}
+
 // The answers.
 
 fn say_refusal(r: Refusal) {
     let mut line = io::buffer();
-    let at = console::put_refusal(&mut line, 0, r);
+    let at = words::put_refusal(&mut line, 0, r);
     say_line(&line, at);
 }
 
@@ -106,6 +151,20 @@ fn say_answer(a: Answer) {
     let lowest = a.lowest;
     let at = console::put_lowest(&mut line, at, lowest);
     end_line(&mut line, at);
+}
+
+fn say_count(n: usize) {
+    let mut line = io::buffer();
+    let at = text::put(&mut line, 0, b"ok ");
+    let at = text::put_decimal(&mut line, at, n as u64);
+    end_line(&mut line, at);
+}
+
+fn say_listed(l: Listed) {
+    match l {
+        Listed::Length(n) => say_count(n),
+        Listed::Refused(r) => say_refusal(r),
+    }
 }
 
 // The operations.
@@ -145,15 +204,20 @@ fn tick(s: &[u8], row: &[i32], cells: &mut [i32], order: &[u16], values: &mut [i
 fn run(s: &[u8], rows: &[i32], outputs: &mut [i32]) {
     let ran = engine::run(s, rows, outputs);
     match ran {
-        Ran::Finished(failing) => {
-            let mut line = io::buffer();
-            let at = text::put(&mut line, 0, b"ok ");
-            let at = text::put_decimal(&mut line, at, failing as u64);
-            end_line(&mut line, at);
-        }
+        Ran::Finished(failing) => say_count(failing),
         Ran::Refused(r) => say_refusal(r),
     }
     say_ints(b"outputs", &*outputs);
+}
+
+fn write(s: &[u8], room: &mut [u8]) {
+    say_listed(writer::write(s, room));
+    say_text(b"text", &*room);
+}
+
+fn read(text: &[u8], room: &mut [u8]) {
+    say_listed(reader::read(text, room));
+    say_bytes(b"bytes", &*room);
 }
 
 fn perform(
@@ -224,6 +288,7 @@ fn known(r: Request) -> bool {
         b's' => (r.rows == 0) & (r.order == 0) & (r.out == 0),
         b't' => true,
         b'r' => (r.cells == 0) & (r.order == 0),
+        b'w' | b'l' => (r.rows == 0) & (r.cells == 0) & (r.order == 0),
         _ => false,
     }
 }
@@ -290,6 +355,36 @@ fn serve(r: Request) -> bool {
     )
 }
 
+// The same for the listing's writer and reader: reads the rest of a request and performs it.
+fn perform_listing(letter: u8, s: &mut [u8], room: &mut [u8]) -> bool {
+    if !fill(&mut *s) {
+        return bad();
+    }
+    if letter == b'w' {
+        write(&*s, room);
+    } else {
+        read(&*s, room);
+    }
+    true
+}
+
+fn serve_listing(letter: u8, l: usize, w: usize) -> bool {
+    if Request::SHEET < l {
+        return bad();
+    }
+    if Request::OUT < w {
+        return bad();
+    }
+    let lent = if letter == b'w' {
+        LENT_TEXT
+    } else {
+        LENT_BYTES
+    };
+    let mut s = [0u8; Request::SHEET];
+    let mut room = [lent; Request::OUT];
+    perform_listing(letter, &mut s[..l], &mut room[..w])
+}
+
 // One request. Answers whether to go on.
 fn one_request() -> bool {
     let mut head = [0u8; 11];
@@ -310,6 +405,9 @@ fn one_request() -> bool {
     };
     if !known(r) {
         return bad();
+    }
+    if (r.letter == b'w') | (r.letter == b'l') {
+        return serve_listing(r.letter, r.sheet, r.out);
     }
     serve(r)
 }

@@ -7,13 +7,14 @@ use lib.IntN.{ℤ, pos}
 use lib.ListN.{replicate, length-replicate}
 use Rattle.finite.specs.Lowest.{lowest}
 use Rattle.finite.specs.Count.{count}
-use Rattle.finite.specs.Lists.{member, all, gather}
+use Rattle.finite.specs.Lists.{member, all, gather, joined, same}
 use Rattle.finite.proofs.GatherLaws.{gather-same}
 use Rattle.number.specs.Word.{wrap, sum, difference, negated, product, divided, modulo}
 use Rattle.number.specs.Operators.{applied}
 use Rattle.table.specs.Order.{ready, fit, misplaced, next, housePart, house}
 use Rattle.table.specs.Equations.{at, work}
 use Rattle.table.specs.Streams.{memAt, valsAt}
+use Rattle.text.specs.Text.{decimalBy, decimal, integer, digits, digitsAfter}
 use Rattle.sheet.specs.Ruling.{rule, each, _then_, answer, accepted}
 use Rattle.sheet.specs.Prefix.{times, past, end}
 use Rattle.sheet.specs.Bytes.{nodes, columnType, start, kindOf, kindAt, argument, arity, isVar, isFby, endOf, operand, lies, above}
@@ -35,12 +36,14 @@ use Rattle.meaning.specs.Verdicts.{verdictBy, verdict, lowestFailing}
 use Rattle.meaning.proofs.MeaningLaws.{meaning-same, orders-mean}
 use Rattle.meaning.proofs.VerdictLaws.{lowestFailing-same}
 use Rattle.engine.specs.Rows.{rowAt}
-use Rattle.settled.specs.Sheets.{A, bare, strict, B, D}
+use Rattle.listing.specs.Listing.{listing, columnAt, nodeAt, nodeText, closings, closes, opens, opening, name, carried}
+use Rattle.listing.specs.Telling.{parts, split, filled, words, recordOf, isNumber, bitsOf, isConstant, constantRecord, numbered, named, nameNo, isType, typeNo, nameRecord, recordTold, takesNext, recordsTold, typesTold, headed, toldBy, sheetTold}
+use Rattle.settled.specs.Sheets.{A, A-text, bare, strict, B, D}
 use Rattle.settled.specs.Table.{Gives, root, Settled}
 
 -- `unfolding computes` opens all that the examples compute with
 unfoldable pub computes : ℕ
-unfolding lowest count member all gather wrap sum difference negated product divided modulo applied ready fit misplaced next housePart house work memAt valsAt rule each _then_ answer times past end nodes columnType start kindOf kindAt argument arity isVar isFby endOf operand lies above wholeBody known badRecord lengthVersion columnTypes body records shape form over depth binds scoped isRec between guarded namedType operatorType typeBy typesAfter typeAt fits wellTyped mistyped slot slots breaks treeRules rules sheet check namedNeed needsBy needs houseOrder ordered source literal valueBy value localBy localValue machine verdictBy verdict lowestFailing rowAt A bare strict B D
+unfolding lowest count member all gather wrap sum difference negated product divided modulo applied ready fit misplaced next housePart house work memAt valsAt rule each _then_ answer times past end nodes columnType start kindOf kindAt argument arity isVar isFby endOf operand lies above wholeBody known badRecord lengthVersion columnTypes body records shape form over depth binds scoped isRec between guarded namedType operatorType typeBy typesAfter typeAt fits wellTyped mistyped slot slots breaks treeRules rules sheet check namedNeed needsBy needs houseOrder ordered source literal valueBy value localBy localValue machine verdictBy verdict lowestFailing rowAt A bare strict B D joined same decimalBy decimal integer digits digitsAfter listing columnAt nodeAt nodeText closings closes opens opening name carried parts split filled words recordOf isNumber bitsOf isConstant constantRecord numbered named nameNo isType typeNo nameRecord recordTold takesNext recordsTold typesTold headed toldBy sheetTold A-text
 computes = 0
 
 -- the values that working the house order at every tick fills in
@@ -96,4 +99,6 @@ settled =
       D-accepted = D-checked;
       D-values = by-working D _ D-checked _ root (root-same D _ D-checked) 3 _ refl;
       D-verdicts = by-working D _ D-checked _ (lowestFailing D) (lowest-agrees D _ D-checked) 3 _ refl;
+      A-listing = refl;
+      A-told = refl;
     }

@@ -13,6 +13,16 @@ A =
     1 ∷ 0 ∷ 0 ∷ 0 ∷ 0 ∷ 0 ∷
     []
 
+-- its listing: `sheet int (rec int (add (fby 0 v0) i0))`
+unfoldable pub A-text : List ℕ
+A-text =
+    115 ∷ 104 ∷ 101 ∷ 101 ∷ 116 ∷ 32 ∷ 105 ∷ 110 ∷ 116 ∷ 32 ∷
+    40 ∷ 114 ∷ 101 ∷ 99 ∷ 32 ∷ 105 ∷ 110 ∷ 116 ∷ 32 ∷
+    40 ∷ 97 ∷ 100 ∷ 100 ∷ 32 ∷
+    40 ∷ 102 ∷ 98 ∷ 121 ∷ 32 ∷ 48 ∷ 32 ∷ 118 ∷ 48 ∷ 41 ∷ 32 ∷
+    105 ∷ 48 ∷ 41 ∷ 41 ∷
+    []
+
 -- REC int, VAR 0
 unfoldable pub bare : List ℕ
 bare =

@@ -14,7 +14,9 @@ use Rattle.meaning.specs.Verdicts.{lowestFailing}
 use Rattle.meaning.specs.declared.Verdict.the-variants.{Caller, Body}
 use Rattle.meaning.specs.declared.Lowest.the-variants.{None, Failing}
 use Rattle.engine.specs.Rows.{rowAt}
-use Rattle.settled.specs.Sheets.{A, bare, strict, B, D}
+use Rattle.listing.specs.Listing.{listing}
+use Rattle.listing.specs.Telling.{sheetTold}
+use Rattle.settled.specs.Sheets.{A, A-text, bare, strict, B, D}
 
 -- the first T of what a function of a tick's values says, tick by tick, of values that meet the equations on these rows
 abbrev pub Gives : {R : Type 0} → List ℕ → (rows : List ℤ) → ((ℕ → ℤ) → R) → (T : ℕ) → List R → Type 0
@@ -48,3 +50,6 @@ pub record Settled : Type 0 where
   pub D-accepted : check D ≡ accepted (record { nodes = 10; columns = 1; slots = 0; root = int })
   pub D-values : Gives D (negsuc 0 ∷ pos 0 ∷ pos 5 ∷ []) root 3 (negsuc 1 ∷ negsuc 0 ∷ pos 4 ∷ [])
   pub D-verdicts : Gives D (negsuc 0 ∷ pos 0 ∷ pos 5 ∷ []) (lowestFailing D) 3 (Failing (record { 0 = 0 }) Caller ∷ Failing (record { 0 = 0 }) Body ∷ None ∷ [])
+  -- request P1: A's listing, and the sheet that it tells
+  pub A-listing : listing A ≡ A-text
+  pub A-told : sheetTold A-text ≡ A

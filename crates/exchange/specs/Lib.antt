@@ -1,0 +1,2 @@
+-- What sheetlist and sheetread print.
+pub mod Exchange
