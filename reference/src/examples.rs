@@ -1,7 +1,8 @@
-//! The settled examples of document 01.
+//! The settled examples of document 01, and the one of request P1.
 
 use crate::eval::{apply, history, run, start, tick, Verdict};
 use crate::gen::*;
+use crate::listing::{read, write};
 use crate::order::{house_order, write_house_order};
 use crate::sheet::{check, Operator, Refusal};
 use crate::text::sheetrun;
@@ -118,14 +119,14 @@ fn tick_a(order: [u16; 5]) -> Option<Refusal> {
 }
 
 /// A chain of NEG over a constant, of this depth.
-fn chain(depth: usize) -> Vec<u8> {
+pub fn chain(depth: usize) -> Vec<u8> {
     let mut records = vec![op(NEG); depth - 1];
     records.push(constant(INT, 1));
     Draft::new(&[], &records).bytes()
 }
 
 /// LETs whose definitions are `count` times this many nodes.
-fn many_lets(definition: &[Record], count: usize) -> Vec<Record> {
+pub fn many_lets(definition: &[Record], count: usize) -> Vec<Record> {
     if count == 0 {
         return vec![constant(INT, 3)];
     }
@@ -245,6 +246,11 @@ pub fn all_examples() -> Vec<(String, Option<String>)> {
     }
     let expected = "ok 5 1 1 int\n0 1 pass\n1 3 pass\n2 6 pass\n";
     table.compare("sheetrun of A", expected.to_string(), sheetrun(&input));
+
+    // The example of P1.
+    let listing = b"sheet int (rec int (add (fby 0 v0) i0))".to_vec();
+    table.compare("the listing of A", Ok(listing.clone()), write(&a));
+    table.compare("A from its listing", Ok(a.clone()), read(&listing));
 
     // The numbers that stand with the operators.
     let of = |operator, a, b| apply(operator, &[a, b]);

@@ -1,8 +1,8 @@
 //! The files of expected output: writing them and comparing them.
 
 use crate::requests::{all_requests, bad_inputs};
-use crate::runs::run_inputs;
-use crate::text::{sheetop, sheetrun, Request};
+use crate::runs::{list_inputs, read_inputs, run_inputs};
+use crate::text::{sheetlist, sheetop, sheetread, sheetrun, Request};
 use std::collections::BTreeMap;
 use std::fs;
 use std::path::Path;
@@ -19,20 +19,28 @@ pub fn joined(requests: &[Request]) -> Vec<u8> {
 /// Every file, made in memory.
 pub fn all_files() -> Vec<File> {
     let mut files = Vec::new();
-    let mut add = |name: String, input: Vec<u8>, output: String| {
+    let mut add = |name: String, input: Vec<u8>, output: Vec<u8>| {
         files.push((format!("{name}.in"), input));
-        files.push((format!("{name}.out"), output.into_bytes()));
+        files.push((format!("{name}.out"), output));
     };
     let input = joined(&all_requests());
-    let output = sheetop(&input);
+    let output = sheetop(&input).into_bytes();
     add("sheetop".to_string(), input, output);
     for (k, input) in bad_inputs().into_iter().enumerate() {
-        let output = sheetop(&input);
+        let output = sheetop(&input).into_bytes();
         add(format!("sheetop-bad-{k}"), input, output);
     }
     for (k, input) in run_inputs().into_iter().enumerate() {
-        let output = sheetrun(&input);
+        let output = sheetrun(&input).into_bytes();
         add(format!("sheetrun-{k}"), input, output);
+    }
+    for (k, input) in list_inputs().into_iter().enumerate() {
+        let output = sheetlist(&input);
+        add(format!("sheetlist-{k}"), input, output);
+    }
+    for (k, input) in read_inputs().into_iter().enumerate() {
+        let output = sheetread(&input);
+        add(format!("sheetread-{k}"), input, output);
     }
     files
 }
@@ -66,7 +74,8 @@ pub fn compare(dir: &str) -> ExitCode {
         println!("{state} {name}");
     }
     for name in names_in(dir) {
-        let ours = name.starts_with("sheetop") || name.starts_with("sheetrun");
+        let programs = ["sheetop", "sheetrun", "sheetlist", "sheetread"];
+        let ours = programs.iter().any(|program| name.starts_with(program));
         let form = name.ends_with(".in") || name.ends_with(".out");
         if ours && form && !files.iter().any(|(known, _)| *known == name) {
             differing += 1;
@@ -114,9 +123,9 @@ pub fn histogram() -> ExitCode {
     let requests = all_requests();
     let counts = counts(&requests);
     println!("{} requests", requests.len());
-    println!("number      c     h     s     t     r   all");
-    for number in 0..=15 {
-        let row: Vec<usize> = "chstr"
+    println!("number      c     h     s     t     r     w     l   all");
+    for number in 0..=16 {
+        let row: Vec<usize> = "chstrwl"
             .chars()
             .map(|letter| *counts.get(&(number, letter)).unwrap_or(&0))
             .collect();

@@ -598,6 +598,58 @@ pub fn loose_sheet(dice: &mut Dice, size: usize) -> Draft {
     draft
 }
 
+/// A sheet of exactly `size` nodes that keeps rules 1 to 6, and others by chance alone.
+pub fn wild_sheet(dice: &mut Dice, size: usize) -> Draft {
+    let columns = match dice.below(5) {
+        0 => 0,
+        1 => 16,
+        _ => dice.range(1, 15),
+    };
+    let types: Vec<u8> = (0..columns).map(|_| dice.below(2) as u8).collect();
+    let mut draft = Draft::new(&types, &[]);
+    let mut open = 1;
+    while open > 0 {
+        // The nodes to come, apart from one at each open place.
+        let spare = size - draft.records.len() - open;
+        let record = if spare == 0 || (open > 1 && dice.chance(1, 3)) {
+            wild_leaf(dice, columns)
+        } else {
+            wild_form(dice, spare)
+        };
+        open = open + record.operands() - 1;
+        draft.records.push(record);
+    }
+    draft
+}
+
+fn wild_leaf(dice: &mut Dice, columns: usize) -> Record {
+    let ty = dice.below(2) as u8;
+    match dice.below(4) {
+        0 if columns > 0 => input(dice.below(columns) as u32),
+        1 => var(dice.range(0, 600) as u32),
+        2 => var(dice.pick(&[0, 9, 10, 511, 512, 65536, 1 << 31, u32::MAX])),
+        _ => constant(ty, dice.value(ty)),
+    }
+}
+
+/// Any record with 1 to `most` operands.
+fn wild_form(dice: &mut Dice, most: usize) -> Record {
+    let ty = dice.below(2) as u8;
+    loop {
+        let record = match dice.below(9) {
+            0..=3 => op(dice.below(14) as u8),
+            4 => fby(ty, dice.value(ty)),
+            5 => rec_of(ty),
+            6 => plain(LET),
+            7 => plain(CHECK),
+            _ => plain(CONTRACT),
+        };
+        if record.operands() <= most {
+            return record;
+        }
+    }
+}
+
 /// A chain of exactly this depth: every form takes bools alone, so types fit.
 pub fn bool_chain(dice: &mut Dice, depth: usize) -> Draft {
     // What is still to be written: leaves, and one chain of some depth.

@@ -1,4 +1,4 @@
-//! A reference for document 01, written from that document alone.
+//! A reference for document 01 and request P1, written from their text alone.
 //! Every sheet is built as a tree and walked.
 
 pub mod eval;
@@ -6,6 +6,7 @@ pub mod examples;
 pub mod files;
 pub mod gate;
 pub mod gen;
+pub mod listing;
 pub mod order;
 pub mod requests;
 pub mod runs;

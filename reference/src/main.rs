@@ -9,8 +9,10 @@ fn main() -> ExitCode {
         let arguments: Vec<String> = std::env::args().skip(1).collect();
         let words: Vec<&str> = arguments.iter().map(String::as_str).collect();
         match words[..] {
-            ["sheetrun"] => print(&text::sheetrun(&read_all())),
-            ["sheetop"] => print(&text::sheetop(&read_all())),
+            ["sheetrun"] => print(text::sheetrun(&read_all()).as_bytes()),
+            ["sheetop"] => print(text::sheetop(&read_all()).as_bytes()),
+            ["sheetlist"] => print(&text::sheetlist(&read_all())),
+            ["sheetread"] => print(&text::sheetread(&read_all())),
             ["write", dir] => files::write(dir),
             ["compare", dir] => files::compare(dir),
             ["write-gate", crates] => gate::write(crates),
@@ -18,7 +20,7 @@ fn main() -> ExitCode {
             ["histogram"] => files::histogram(),
             ["check-examples"] => examples::report(),
             _ => {
-                eprintln!("commands: sheetrun, sheetop, write DIR, compare DIR, write-gate CRATES, compare-gate CRATES, histogram, check-examples");
+                eprintln!("commands: sheetrun, sheetop, sheetlist, sheetread, write DIR, compare DIR, write-gate CRATES, compare-gate CRATES, histogram, check-examples");
                 ExitCode::from(2)
             }
         }
@@ -33,9 +35,9 @@ fn read_all() -> Vec<u8> {
     input
 }
 
-fn print(text: &str) -> ExitCode {
+fn print(output: &[u8]) -> ExitCode {
     std::io::stdout()
-        .write_all(text.as_bytes())
+        .write_all(output)
         .expect("the output can be written");
     ExitCode::SUCCESS
 }

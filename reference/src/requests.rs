@@ -4,6 +4,7 @@
 mod damage;
 mod lent;
 mod limits;
+mod listings;
 mod orders;
 mod right;
 mod sheets;
@@ -132,7 +133,7 @@ impl Book {
 
 /// All requests, in the order of the file.
 pub fn all_requests() -> Vec<Request> {
-    let sections: [fn(&mut Book); 22] = [
+    let sections: [fn(&mut Book); 30] = [
         settled,
         right::operators,
         sheets::single_records,
@@ -155,6 +156,14 @@ pub fn all_requests() -> Vec<Request> {
         sheets::many_faults,
         sheets::large_faults,
         right::verdicts,
+        listings::settled_listings,
+        listings::rooms,
+        listings::forms_and_numbers,
+        listings::long_listings,
+        listings::refused_sheets,
+        listings::random_listings,
+        listings::damaged_texts,
+        listings::wrong_texts,
     ];
     let mut list = Vec::new();
     for (number, section) in sections.iter().enumerate() {
@@ -273,5 +282,14 @@ pub fn bad_inputs() -> Vec<Vec<u8>> {
         after(b"\n"),
         // Nothing at all is no bad request.
         vec![],
+        // Listings: a length that is not used, over a limit, cut short.
+        with([l, 1, 0, 0, 50], b'w', 4),
+        with([l, 0, 1, 0, 50], b'l', 4),
+        with([l, 0, 0, 1, 50], b'w', 2),
+        with([l, 0, 0, 0, 16385], b'w', 0),
+        with([l, 0, 0, 0, 16385], b'l', 0),
+        [header(b'l', [16385, 0, 0, 0, 0]), vec![32; 16385]].concat(),
+        after(&header(b'l', [3, 0, 0, 0, 5])),
+        after(b"w"),
     ]
 }

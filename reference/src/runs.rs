@@ -1,7 +1,8 @@
-//! The inputs of sheetrun.
+//! The inputs of sheetrun, sheetlist and sheetread.
 
 use crate::examples::{sheet_a, sheet_b, sheet_d};
 use crate::gen::*;
+use crate::listing::write;
 
 /// A sheet and its rows as one input.
 fn input_of(sheet: &[u8], rows: &[i32]) -> Vec<u8> {
@@ -129,4 +130,44 @@ pub fn run_inputs() -> Vec<Vec<u8>> {
         // A sheet of C = 0 with a failing check.
         Draft::new(&[], &[plain(CHECK), constant(BOOL, 0), constant(BOOL, 1)]).bytes(),
     ]
+}
+
+/// Whole inputs of sheetlist.
+pub fn list_inputs() -> Vec<Vec<u8>> {
+    let mut dice = Dice::new(0x5EED_1002);
+    let a = sheet_a().bytes();
+    let deep = [vec![fby(INT, i32::MIN); 511], vec![constant(INT, i32::MIN)]].concat();
+    vec![
+        a.clone(),
+        Draft::new(&[], &[constant(BOOL, 1)]).bytes(),
+        wild_sheet(&mut dice, 60).bytes(),
+        // The longest listing, and one node more.
+        Draft::new(&[BOOL; 16], &deep).bytes(),
+        Draft::new(&[BOOL; 16], &[vec![op(NEG)], deep].concat()).bytes(),
+        // Nothing, a byte less, a line feed behind, a broken record.
+        vec![],
+        a[..a.len() - 1].to_vec(),
+        [&a[..], b"\n"].concat(),
+        Draft::new(&[INT], &[op(NEG), input(1)]).bytes(),
+    ]
+}
+
+/// Whole inputs of sheetread.
+pub fn read_inputs() -> Vec<Vec<u8>> {
+    let listings = list_inputs()
+        .into_iter()
+        .filter_map(|sheet| write(&sheet).ok());
+    let mut inputs: Vec<Vec<u8>> = listings.map(|text| [&text[..], b"\n"].concat()).collect();
+    let a = inputs[0].clone();
+    // No line feed, two, one with a carriage return, one in front.
+    inputs.push(a[..a.len() - 1].to_vec());
+    inputs.push([&a[..], b"\n"].concat());
+    inputs.push([&a[..a.len() - 1], b"\r\n"].concat());
+    inputs.push([b"\n", &a[..]].concat());
+    // Nothing, a line feed alone, two listings, far too much.
+    inputs.push(vec![]);
+    inputs.push(b"\n".to_vec());
+    inputs.push([&a[..], &a[..]].concat());
+    inputs.push(vec![b'('; 30000]);
+    inputs
 }

@@ -155,6 +155,17 @@ impl Sheet {
 
 /// Check: the sheet as a tree, or the first refusal.
 pub fn check(bytes: &[u8]) -> Result<Sheet, Refusal> {
+    let sheet = read_sheet(bytes)?;
+    check_depth(&sheet)?;
+    check_scope(&sheet)?;
+    check_types(&sheet)?;
+    check_guards(&sheet)?;
+    check_slots(&sheet)?;
+    Ok(sheet)
+}
+
+/// Rules 1 to 6: the tree of a sheet that may still break the others.
+pub fn read_sheet(bytes: &[u8]) -> Result<Sheet, Refusal> {
     // Rule 1.
     if bytes.len() < 4 || usize::from(bytes[0]) * 256 + usize::from(bytes[1]) != bytes.len() {
         return refuse(1, 0);
@@ -165,16 +176,8 @@ pub fn check(bytes: &[u8]) -> Result<Sheet, Refusal> {
     }
     let columns = read_columns(bytes)?;
     let records = read_records(&bytes[4 + columns.len()..], columns.len())?;
-    let sheet = Sheet {
-        columns,
-        root: read_tree(&records)?,
-    };
-    check_depth(&sheet)?;
-    check_scope(&sheet)?;
-    check_types(&sheet)?;
-    check_guards(&sheet)?;
-    check_slots(&sheet)?;
-    Ok(sheet)
+    let root = read_tree(&records)?;
+    Ok(Sheet { columns, root })
 }
 
 /// Rule 3.

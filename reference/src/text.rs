@@ -1,6 +1,7 @@
-//! The printed output of sheetrun and of sheetop.
+//! The printed output of the programs.
 
 use crate::eval::{check_rows, history, run, start, tick, Answer, MAX_ROWS};
+use crate::listing::{read, read_into, write, write_into};
 use crate::order::write_house_order;
 use crate::sheet::{check, refuse, Refusal, Sheet};
 use std::fmt::Write;
@@ -50,6 +51,22 @@ fn sheetrun_lines(input: &[u8]) -> Result<String, Refusal> {
     Ok(text)
 }
 
+/// The whole output of sheetlist for this input.
+pub fn sheetlist(input: &[u8]) -> Vec<u8> {
+    match write(input) {
+        Ok(listing) => [&listing[..], b"\n"].concat(),
+        Err(refusal) => refused_line(refusal).into_bytes(),
+    }
+}
+
+/// The whole output of sheetread for this input.
+pub fn sheetread(input: &[u8]) -> Vec<u8> {
+    match read(input.strip_suffix(b"\n").unwrap_or(input)) {
+        Ok(bytes) => bytes,
+        Err(refusal) => refused_line(refusal).into_bytes(),
+    }
+}
+
 fn refused_line(refusal: Refusal) -> String {
     format!("refused {} {}\n", refusal.number, refusal.place)
 }
@@ -78,13 +95,17 @@ fn read_int(bytes: &[u8]) -> i32 {
 /// The contents of a lent slice that only takes results.
 pub const UNTOUCHED: i32 = -1431655766;
 
+/// The contents of a lent room for a listing, and of one for a sheet.
+pub const UNTOUCHED_TEXT: u8 = 35;
+pub const UNTOUCHED_BYTE: u8 = 170;
+
 pub const MAX_SHEET_BYTES: usize = 16384;
 pub const MAX_ROW_INTS: usize = 8192;
 pub const MAX_CELLS: usize = 1024;
 pub const MAX_ORDER: usize = 1024;
 pub const MAX_RESULTS: usize = 16384;
 
-/// One request of sheetop.
+/// One request of sheetop. For `l` the listing stands in the sheet's place.
 #[derive(Clone, Debug, PartialEq, Eq)]
 pub struct Request {
     pub letter: u8,
@@ -140,6 +161,7 @@ fn read_request(input: &mut &[u8]) -> Option<Request> {
         b's' => [true, false, true, false, false],
         b't' => [true, true, true, true, true],
         b'r' => [true, true, false, false, true],
+        b'w' | b'l' => [true, false, false, false, true],
         _ => return None,
     };
     let limits = [
@@ -196,9 +218,9 @@ pub fn reply(request: Request) -> String {
         rows,
         mut cells,
         mut order,
-        results,
+        results: room,
     } = request;
-    let mut results = vec![UNTOUCHED; results];
+    let mut results = vec![UNTOUCHED; room];
     let (answer, lent) = match letter {
         b'c' => (check(&sheet).map(|sheet| accepted_line(&sheet)), vec![]),
         b'h' => {
@@ -222,10 +244,32 @@ pub fn reply(request: Request) -> String {
             let lent = vec![slice_line("outputs", &results)];
             (done.map(|failing| format!("ok {failing}\n")), lent)
         }
+        b'w' => {
+            let mut text = vec![UNTOUCHED_TEXT; room];
+            let done = write_into(&sheet, &mut text);
+            (done.map(length_line), vec![text_line(&text)])
+        }
+        b'l' => {
+            let mut bytes = vec![UNTOUCHED_BYTE; room];
+            let done = read_into(&sheet, &mut bytes);
+            let entries: Vec<String> = bytes.iter().map(|byte| format!("{byte:02x}")).collect();
+            (done.map(length_line), vec![slice_line("bytes", &entries)])
+        }
         _ => unreachable!("the letter was looked at before"),
     };
     let first = answer.unwrap_or_else(refused_line);
     first + &lent.concat()
+}
+
+fn length_line(length: usize) -> String {
+    format!("ok {length}\n")
+}
+
+/// A room that holds text, as it stands.
+fn text_line(text: &[u8]) -> String {
+    let text = String::from_utf8(text.to_vec()).expect("a listing is plain text");
+    let space = if text.is_empty() { "" } else { " " };
+    format!("text{space}{text}\n")
 }
 
 fn slice_line<T: std::fmt::Display>(name: &str, entries: &[T]) -> String {

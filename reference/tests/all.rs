@@ -1,13 +1,14 @@
-//! The reference against document 01's examples and against itself.
+//! The reference against the documents' examples and against itself.
 
 use reference::eval::{first_cells, history, start, tick};
-use reference::examples::all_examples;
+use reference::examples::{all_examples, sheet_a, sheet_b, sheet_d};
 use reference::files::{all_files, counts, joined};
 use reference::gen::*;
+use reference::listing::{read, read_into, write, write_into};
 use reference::order::{check_order, house_order, needs};
 use reference::requests::all_requests;
-use reference::sheet::{check, Node, Refusal, Sheet, What};
-use reference::text::{reply, sheetop, sheetrun, Request, UNTOUCHED};
+use reference::sheet::{check, read_sheet, Node, Refusal, Sheet, What};
+use reference::text::{reply, sheetlist, sheetop, sheetread, sheetrun, Request, UNTOUCHED};
 use reference::with_big_stack;
 
 #[test]
@@ -128,6 +129,9 @@ fn untouched(request: &Request) -> String {
         b's' => line("cells", &request.cells),
         b't' => line("cells", &request.cells) + &line("values", &results),
         b'r' => line("outputs", &results),
+        b'w' if request.results > 0 => format!("text {}\n", "#".repeat(request.results)),
+        b'w' => "text\n".to_string(),
+        b'l' => line("bytes", &vec!["aa"; request.results]),
         _ => String::new(),
     }
 }
@@ -147,9 +151,9 @@ fn a_refusal_changes_nothing() {
 #[test]
 fn the_requests_cover_every_number() {
     let requests = all_requests();
-    assert!((3000..=4000).contains(&requests.len()));
+    assert!((4000..=5000).contains(&requests.len()));
     let counts = counts(&requests);
-    for number in 0..=15 {
+    for number in 0..=16 {
         let all: usize = counts
             .iter()
             .filter(|((found, _), _)| *found == number)
@@ -198,7 +202,7 @@ fn files_are_the_same_each_time_and_small() {
 
 #[test]
 fn sheetop_reads_back_what_the_requests_write() {
-    let requests: Vec<Request> = all_requests().into_iter().take(500).collect();
+    let requests = all_requests();
     let one_by_one: String = requests.iter().cloned().map(reply).collect();
     assert_eq!(sheetop(&joined(&requests)), one_by_one);
 }
@@ -217,4 +221,143 @@ fn sheetrun_limits() {
     assert_eq!(sheetrun(&rows(256)).lines().count(), 257);
     // Not whole rows comes before too many rows.
     assert_eq!(sheetrun(&[rows(300), vec![0]].concat()), "refused 12 1\n");
+}
+
+#[test]
+fn listings_of_the_examples() {
+    let listings = [
+        (sheet_a(), "sheet int (rec int (add (fby 0 v0) i0))"),
+        (
+            sheet_b(),
+            "sheet (rec int (fby 0 (rec int (add (fby 1 v2) v0))))",
+        ),
+        (
+            sheet_d(),
+            "sheet int (contract (le 0 i0) (sub i0 1) (le 0 v0))",
+        ),
+        (Draft::new(&[], &[constant(INT, 7)]), "sheet 7"),
+        (
+            Draft::new(&[BOOL], &[constant(INT, i32::MIN)]),
+            "sheet bool -2147483648",
+        ),
+        (
+            Draft::new(&[], &[op(NEG), constant(INT, 5)]),
+            "sheet (neg 5)",
+        ),
+        (
+            Draft::new(&[], &[fby(BOOL, 1), var(u32::MAX)]),
+            "sheet (fby true v4294967295)",
+        ),
+    ];
+    for (draft, text) in listings {
+        assert_eq!(write(&draft.bytes()), Ok(text.as_bytes().to_vec()));
+        assert_eq!(read(text.as_bytes()), Ok(draft.bytes()));
+    }
+}
+
+#[test]
+fn reading_undoes_writing() {
+    let mut dice = Dice::new(13);
+    for round in 0..2000 {
+        let size = if round % 50 == 0 {
+            500
+        } else {
+            dice.range(1, 60)
+        };
+        let bytes = match round % 3 {
+            0 => right_sheet(&mut dice, size).bytes(),
+            1 => loose_sheet(&mut dice, size).bytes(),
+            _ => wild_sheet(&mut dice, size).bytes(),
+        };
+        let text = write(&bytes).expect("the sheet keeps rules 1 to 6");
+        assert_eq!(read(&text), Ok(bytes));
+    }
+}
+
+#[test]
+fn the_longest_listing() {
+    let records = [vec![fby(INT, i32::MIN); 511], vec![constant(INT, i32::MIN)]].concat();
+    let longest = Draft::new(&[BOOL; 16], &records).bytes();
+    assert_eq!(write(&longest).map(|text| text.len()), Ok(9295));
+}
+
+const NO_LISTING: Refusal = Refusal {
+    number: 16,
+    place: 0,
+};
+
+/// The text is refused, or it is the listing of the sheet that was read.
+fn is_refused_or_the_listing(text: &[u8]) -> bool {
+    match read(text) {
+        Err(refusal) => {
+            assert_eq!(refusal, NO_LISTING);
+            true
+        }
+        Ok(bytes) => {
+            assert!(read_sheet(&bytes).is_ok());
+            assert_eq!(write(&bytes).as_deref(), Ok(text));
+            false
+        }
+    }
+}
+
+#[test]
+fn writing_undoes_reading() {
+    let mut refused = 0;
+    let mut others = 0;
+    for request in all_requests() {
+        if request.letter == b'l' {
+            refused += usize::from(is_refused_or_the_listing(&request.sheet));
+        }
+    }
+    // Every byte in the place of every byte, left out, and put in.
+    for draft in [sheet_a(), sheet_b(), sheet_d()] {
+        let text = write(&draft.bytes()).expect("the sheet is right");
+        for at in 0..text.len() {
+            for byte in 0..=255 {
+                let changed = [&text[..at], &[byte], &text[at + 1..]].concat();
+                let longer = [&text[..at], &[byte], &text[at..]].concat();
+                others += usize::from(!is_refused_or_the_listing(&changed));
+                others += usize::from(!is_refused_or_the_listing(&longer));
+            }
+            is_refused_or_the_listing(&[&text[..at], &text[at + 1..]].concat());
+            is_refused_or_the_listing(&text[..at]);
+        }
+    }
+    assert!(refused > 300, "{refused} texts are refused");
+    assert!(others > 100, "{others} are listings of other sheets");
+}
+
+#[test]
+fn rooms_for_listings() {
+    let bytes = sheet_a().bytes();
+    let text = write(&bytes).expect("A is right");
+    let short = Err(Refusal {
+        number: 12,
+        place: 7,
+    });
+    let mut room = vec![35; 60];
+    assert_eq!(write_into(&bytes, &mut room[..text.len() - 1]), short);
+    assert_eq!(room, [35; 60]);
+    assert_eq!(write_into(&bytes, &mut room), Ok(text.len()));
+    assert_eq!(room, [&text[..], &[35; 21]].concat());
+    let mut room = vec![170; 60];
+    assert_eq!(read_into(&text, &mut room[..bytes.len() - 1]), short);
+    assert_eq!(read_into(&text[1..], &mut []), Err(NO_LISTING));
+    assert_eq!(room, [170; 60]);
+    assert_eq!(read_into(&text, &mut room), Ok(bytes.len()));
+    assert_eq!(room, [&bytes[..], &[170; 25]].concat());
+}
+
+#[test]
+fn sheetlist_and_sheetread() {
+    let bytes = sheet_a().bytes();
+    let line = sheetlist(&bytes);
+    assert_eq!(line, b"sheet int (rec int (add (fby 0 v0) i0))\n");
+    assert_eq!(sheetread(&line), bytes);
+    assert_eq!(sheetread(&line[..line.len() - 1]), bytes);
+    assert_eq!(sheetread(&[&line[..], b"\n"].concat()), b"refused 16 0\n");
+    assert_eq!(sheetread(b""), b"refused 16 0\n");
+    assert_eq!(sheetlist(b""), b"refused 1 0\n");
+    assert_eq!(sheetlist(&[0, 4, 1, 0]), b"refused 4 0\n");
 }
