@@ -96,7 +96,7 @@ type-byte zero l = refl
 type-byte (suc zero) l = refl
 type-byte (suc (suc b)) l = absurd (omega arith)
 
--- record i, as the recordOf of its parts
+-- record i, of its parts
 recordAt : List ℕ → ℕ → List ℕ
 recordAt s i = recordOf (byte s (start s i)) (byte s (start s i + 1)) (argument s i)
 

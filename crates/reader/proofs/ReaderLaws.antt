@@ -53,7 +53,7 @@ append-end {word} {before} {at = at} a l =
     let h : Holds (take at before) before before at = record { contents = rw n (sym (take-append-drop at before)); count = sym n } in
     a .more h (omega arith) .count ∙ length-append (take at before) word ∙ rw n
 
--- where there is none, nothing is saidListed but that the buffer keeps its length
+-- where there is none, nothing is said but that the buffer keeps its length
 append-over : {word before after : List ℕ} {at : ℕ} → length after ≡ length before → length before < at + length word → Appends word before after at 0
 append-over {before = before} e l =
     record {
@@ -121,7 +121,7 @@ pub record TypesLeft (t : List ℕ) (ws : List (List ℕ)) (before : List ℕ) (
   pub starts : Starts t from
   pub few : count ≤ maxColumns
   pub counted : length (typesTold maxColumns ws) ≡ count + length (typesTold (maxColumns - count) (words (drop from t)))
-  words-left : words (drop from t) ≡ drop count ws
+  pub words-left : words (drop from t) ≡ drop count ws
   pub left : Left (typesTold maxColumns ws) (typesTold (maxColumns - count) (words (drop from t))) before now end end'
 
 pub types-all : (t xs : List ℕ) (end : ℕ) {first to from : ℕ} → Place t 0 (wordFrom t 0) first → Place t first (wordTo t first) to → Place t to (wordFrom t to) from
@@ -183,21 +183,21 @@ unfolding recordsTold
 records-past [] = refl
 records-past (w ∷ ws) = refl
 
-constant-length : (kind : ℕ) (w : List ℕ) → length (constantRecord kind w) ≡ 6
+constant-record-length : (kind : ℕ) (w : List ℕ) → length (constantRecord kind w) ≡ 6
 unfolding constantRecord recordOf
-constant-length kind w = by-test (isNumber w) (λ t. rw t) (λ f. rw f)
+constant-record-length kind w = by-test (isNumber w) (λ t. rw t) (λ f. rw f)
 
-name-length : (n : ℕ) (v : List ℕ) → length (nameRecord n v) ≡ 6
+name-record-length : (n : ℕ) (v : List ℕ) → length (nameRecord n v) ≡ 6
 unfolding nameRecord recordOf
-name-length n v =
-    by-test (eqb n 14) (λ t. rw t (constant-length 4 v)) (λ f. rw f (by-test (eqb n 15) (λ t. rw t) (λ f. rw f)))
+name-record-length n v =
+    by-test (eqb n 14) (λ t. rw t (constant-record-length 4 v)) (λ f. rw f (by-test (eqb n 15) (λ t. rw t) (λ f. rw f)))
 
 pub record-length : (w v : List ℕ) → length (recordTold w v) ≡ 6
 unfolding recordTold recordOf
 record-length w v =
-    by-test (isConstant w) (λ t. rw t (constant-length 0 w))
+    by-test (isConstant w) (λ t. rw t (constant-record-length 0 w))
     (λ f. rw f (by-test (numbered 118 w) (λ t. rw t)
-    (λ f. rw f (by-test (numbered 105 w) (λ t. rw t) (λ f. rw f (name-length (nameNo w) v))))))
+    (λ f. rw f (by-test (numbered 105 w) (λ t. rw t) (λ f. rw f (name-record-length (nameNo w) v))))))
 
 -- a turn of the loop over the records: what is told from one start on is a record, and what is told from a later start on
 pub record Turn (t : List ℕ) (from : ℕ) (told : List ℕ) (after : ℕ) : Type 0 where
