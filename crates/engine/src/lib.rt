@@ -21,27 +21,27 @@ use rules::Checked;
 use sheet::{Column, Judged, Kind, Lent, Node, Refusal, Sheet, Slot, ValueType};
 
 // A tick's answer: the root's value, the count of nodes not PASS, and the lowest such node with its verdict, or that there is none.
-#[derive(Drop)]
+#[derive(Clone, Copy)]
 pub struct Answer {
     pub root: i32,
     pub failures: usize,
     pub lowest: Lowest,
 }
 
-#[derive(Drop)]
+#[derive(Clone, Copy)]
 pub enum Ticked {
     Done(Answer),
     Refused(Refusal),
 }
 
-#[derive(Drop)]
+#[derive(Clone, Copy)]
 pub enum Ran {
     Finished(usize),
     Refused(Refusal),
 }
 
 // A run: the ticks so far, and how many of them had a verdict other than PASS.
-#[derive(Drop)]
+#[derive(Clone, Copy)]
 pub struct RunState {
     pub ticks: usize,
     pub failing: usize,

@@ -9,7 +9,7 @@ use number::Operator;
 use sheet::{Kind, Refusal, Sheet};
 
 // The answer of the writer and of the reader: the result's length, or a refusal.
-#[derive(Drop)]
+#[derive(Clone, Copy)]
 pub enum Listed {
     Length(usize),
     Refused(Refusal),

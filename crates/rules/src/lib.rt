@@ -1,4 +1,6 @@
 // Rules 7 to 11: depth, scope, types, guard and slots, each a test on nodes; and Check.
+#![tactic(auto)]
+
 ghost use Rattle.std.specs.Prelude.{◌≡◌, true, List, ℕ, ◌<◌, ◌≤◌, length, get_or, set};
 ghost use Rattle.sheet.specs.Ceilings.{max_nodes};
 ghost use Rattle.sheet.specs.Ruling.{◌then◌, told, number_of, place_of, passed};
@@ -13,7 +15,7 @@ use number::Operator;
 use sheet::{Judged, Kind, Node, Refusal, Sheet, ValueType};
 
 // The rules that are tested node by node.
-#[derive(Drop)]
+#[derive(Clone, Copy)]
 pub enum Rule {
     Depth,
     Scope,
@@ -22,7 +24,7 @@ pub enum Rule {
     Slots,
 }
 
-#[derive(Drop)]
+#[derive(Clone, Copy)]
 pub enum Checked {
     Accepted(Sheet),
     Refused(Refusal),

@@ -1,4 +1,6 @@
 // A sheet's bytes: ceilings, the four counts, refusals, records, rules 1 to 6, and where each expression ends.
+#![tactic(auto)]
+
 ghost use Rattle.std.specs.Prelude.{◌≡◌, ◌∷◌, [], ◌<◌, ◌≤◌, length, get_or, set};
 ghost use Rattle.finite.specs.Lowest.{lowest};
 ghost use Rattle.sheet.specs.Ceilings.{ceilings, max_nodes};
@@ -11,26 +13,26 @@ use number::Operator;
 
 // The four counts.
 
-#[derive(Drop)]
+#[derive(Clone, Copy)]
 pub struct Node(pub u16);
 
-#[derive(Drop)]
+#[derive(Clone, Copy)]
 pub struct Slot(pub u16);
 
-#[derive(Drop)]
+#[derive(Clone, Copy)]
 pub struct Column(pub u16);
 
-#[derive(Drop)]
+#[derive(Clone, Copy)]
 pub struct Position(pub u16);
 
-#[derive(Drop)]
+#[derive(Clone, Copy)]
 pub enum ValueType {
     Bool,
     Int,
 }
 
 // An accepted sheet: its node count, column count, slot count and the root's type.
-#[derive(Drop)]
+#[derive(Clone, Copy)]
 pub struct Sheet {
     pub nodes: usize,
     pub columns: usize,
@@ -38,7 +40,7 @@ pub struct Sheet {
     pub root: ValueType,
 }
 
-#[derive(Drop)]
+#[derive(Clone, Copy)]
 pub struct Ceilings {
     pub columns: usize,
     pub nodes: usize,
@@ -76,7 +78,7 @@ impl Sheet {
 }
 
 // A record's kind with its code; Unknown where the table of kinds has no such kind, code or operator.
-#[derive(Drop)]
+#[derive(Clone, Copy)]
 pub enum Kind {
     Const(ValueType),
     Input,
@@ -91,7 +93,7 @@ pub enum Kind {
 }
 
 // A lent slice of a wrong length.
-#[derive(Drop)]
+#[derive(Clone, Copy)]
 pub enum Lent {
     Rows,
     Cells,
@@ -102,7 +104,7 @@ pub enum Lent {
 }
 
 // A refusal: the rule, with its place where it has several.
-#[derive(Drop)]
+#[derive(Clone, Copy)]
 pub enum Refusal {
     Length,
     Version,
@@ -122,7 +124,7 @@ pub enum Refusal {
     Text,
 }
 
-#[derive(Drop)]
+#[derive(Clone, Copy)]
 pub enum Judged {
     Passed,
     Refused(Refusal),
@@ -213,6 +215,7 @@ pub fn byte(s: &[u8], at: usize) -> u8
     if at < s.len() { s[at] } else { 0 }
 }
 
+#[tactic(auto, unfolding(crate::specs::Bytes::nodes))]
 pub fn nodes(s: &[u8]) -> usize
     ensures { result ≡ bytes.nodes s.now }
 {
@@ -224,6 +227,7 @@ pub fn nodes(s: &[u8]) -> usize
     }
 }
 
+#[tactic(auto, unfolding(crate::specs::Bytes::start))]
 fn start(s: &[u8], i: Node) -> usize
     ensures { (result ≡ bytes.start s.now i.0) × (result < 400000) }
 {
@@ -242,6 +246,7 @@ fn type_of(b: u8) -> ValueType
     }
 }
 
+#[tactic(auto, unfolding(crate::specs::Bytes::column_type))]
 pub fn column_type(s: &[u8], c: Column) -> ValueType
     ensures { result ≡ bytes.column_type s.now c.0 }
 {
@@ -288,6 +293,7 @@ fn plain(code: u8, kind: Kind) -> Kind
     if code == 0 { kind } else { Kind::Unknown }
 }
 
+#[tactic(auto, unfolding(crate::specs::Bytes::kind_of))]
 pub fn kind_of(kind: u8, code: u8) -> Kind
     ensures { result ≡ bytes.kind_of kind code }
 {
@@ -309,6 +315,7 @@ pub fn kind_of(kind: u8, code: u8) -> Kind
     }
 }
 
+#[tactic(auto, unfolding(crate::specs::Bytes::kind_at))]
 pub fn kind_at(s: &[u8], i: Node) -> Kind
     ensures { result ≡ bytes.kind_at s.now i.0 }
 {
@@ -316,6 +323,7 @@ pub fn kind_at(s: &[u8], i: Node) -> Kind
     kind_of(byte(s, at), byte(s, at + 1))
 }
 
+#[tactic(auto, unfolding(crate::specs::Bytes::argument))]
 pub fn argument(s: &[u8], i: Node) -> u32
     ensures { result ≡ bytes.argument s.now i.0 }
 {
@@ -349,6 +357,7 @@ pub fn input_column(s: &[u8], i: Node) -> Column
     Column(number_of(argument(s, i)))
 }
 
+#[tactic(auto, unfolding(crate::specs::Bytes::arity))]
 pub fn arity(k: Kind) -> usize
     ensures { result ≡ bytes.arity k }
 {
@@ -372,6 +381,7 @@ fn holds(t: ValueType, a: u32) -> bool
     }
 }
 
+#[tactic(auto, unfolding(crate::specs::Form::known))]
 fn known(columns: u32, k: Kind, a: u32) -> bool
     ensures { result ≡ form.known columns k a }
 {
@@ -385,6 +395,7 @@ fn known(columns: u32, k: Kind, a: u32) -> bool
     }
 }
 
+#[tactic(auto, unfolding(crate::specs::Form::bad_record))]
 fn bad_record(s: &[u8], i: Node) -> bool
     ensures { result ≡ form.bad_record s.now i.0 }
 {

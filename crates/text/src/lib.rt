@@ -1,5 +1,7 @@
 // Text: words and decimal numbers, appended to a lent buffer, compared and read. The buffer's first `at` bytes are the text so far; what
 // is returned is the new text's length. Where a word has no room, what of it is written is left open.
+#![tactic(auto)]
+
 ghost use Rattle.std.specs.Prelude.{◌≡◌, [], ◌∷◌, drop};
 ghost use Rattle.finite.specs.Lists.{same};
 ghost use Rattle.text.specs.Text.{decimal, integer, digits, Appends};

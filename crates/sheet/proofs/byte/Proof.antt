@@ -1,8 +1,0 @@
-use mathlib.Core.Path.{sym}
-use lib.ListN.{get_or-eq_default}
-use borrow.Author.Rules.{rules}
-use Rattle.sheet.proofs.byte.Statement.{statement}
-use Rattle.sheet.proofs.byte.Tie as tie
-
-pub byte-spec : {M : Type 1} → statement M
-byte-spec = tie.close (tie.spec (λ c. search rules) (λ c. search rules) (λ c. sym (get_or-eq_default c.before.args.s.now _ c.if1.false)))
