@@ -1,0 +1,10 @@
+-- What is left is the same exactly where all is.
+use Rattle.std.proofs.Common.{length, ◌-◌, ◌≡◌, drop, ◌≤◌}
+use Rattle.finite.specs.Lists.{same}
+use Rattle.text.proofs.same.Given as goal
+
+abbrev pub invariant-loop-i : goal.invariant-loop-i
+invariant-loop-i l = (l.i ≤ length l.a) × (length l.a ≡ length l.b) × (same l.a l.b ≡ same (drop l.i l.a) (drop l.i l.b))
+
+abbrev pub decreases-loop-i : goal.decreases-loop-i
+decreases-loop-i l = length l.a - l.i
