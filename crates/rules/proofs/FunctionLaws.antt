@@ -3,7 +3,7 @@
 use Prim.Native.Nat.{ℕ, ◌<◌}
 use mathlib.Core.Path.{◌≡◌, ◌∙◌}
 use mathlib.Core.Logic.{inl, inr}
-use mathlib.Core.Bool.{true}
+use mathlib.Core.Bool.{Bool, true}
 use mathlib.Core.List.{List, [], ◌∷◌}
 use native.Mathlib.Omega.{arith}
 use lib.ListN.{get_or}
@@ -24,6 +24,7 @@ use Rattle.sheet.specs.declared.Judged.{Judged}
 use Rattle.sheet.specs.declared.Judged.TheVariants.{Passed, Refused}
 use Rattle.sheet.proofs.SheetLaws.{operand_by_table}
 use Rattle.sheet.specs.contracts.Kind.{the_type as kinds}
+use Rattle.rules.specs.Scope.{over}
 use Rattle.rules.specs.Check.{Scoped}
 use Rattle.rules.proofs.GuardLaws.{scoped-is}
 
@@ -107,3 +108,10 @@ module _ {X : Type 0} (x : X) where
   rest_operators f ns Div h all = among (AtOperator f) ns 11 h all
   rest_operators f ns Neg h all = among (AtOperator f) ns 12 h all
   rest_operators f ns Mod h all = among (AtOperator f) ns 13 h all
+
+-- ---- a table of how many nodes stand above each
+
+-- it is right at the root and at the operands of the nodes before i
+abbrev pub Reached : List ℕ → (ℕ → Bool) → ℕ → List ℕ → Type 0
+Reached s p i table =
+    (get_or table 0 0 ≡ 0) × ((a k : ℕ) → a < i → k < arity_at s a → get_or table (operand s a k) 0 ≡ over s p (operand s a k))

@@ -60,18 +60,21 @@ fn put(table: &mut [u16], i: Node, x: u16)
     table[at] = x;
 }
 
+#[tactic(auto, unfolding(sheet::specs::Bytes::is_var))]
 fn is_var(k: Kind) -> bool
     ensures { result ≡ bytes.is_var k }
 {
     if let Kind::Var = k { true } else { false }
 }
 
+#[tactic(auto, unfolding(sheet::specs::Bytes::is_fby))]
 pub fn is_fby(k: Kind) -> bool
     ensures { result ≡ bytes.is_fby k }
 {
     if let Kind::Fby(_) = k { true } else { false }
 }
 
+#[tactic(auto, unfolding(crate::specs::Scope::is_rec))]
 fn is_rec(k: Kind) -> bool
     ensures { result ≡ scope.is_rec k }
 {
@@ -80,6 +83,7 @@ fn is_rec(k: Kind) -> bool
 
 // How many nodes stand above each node: all, or the FBYs alone.
 
+#[tactic(auto, unfolding(crate::specs::Scope::counted))]
 fn counted(s: &[u8], delays_only: bool, i: Node) -> bool
     ensures { result ≡ scope.counted s.now delays_only i.0 }
 {
@@ -135,6 +139,7 @@ fn fill_overs(
 // Scope.
 
 // Node i lies in operand k of node b.
+#[tactic(auto, unfolding(sheet::specs::Bytes::lies))]
 fn lies(ends: &[u16; Sheet::NODES], b: Node, k: usize, i: Node) -> bool
     ensures { (s : List ℕ) → Formed s → bytes.Ends s ends.now → b.0 < bytes.nodes s → k < bytes.arity_at s b.0 → result ≡ bytes.lies s b.0 k i.0 }
 {
@@ -142,6 +147,7 @@ fn lies(ends: &[u16; Sheet::NODES], b: Node, k: usize, i: Node) -> bool
     (first.0 <= i.0) & (i.0 < entry(ends, first))
 }
 
+#[tactic(auto, unfolding(crate::specs::Scope::scoped, crate::specs::Scope::binds, sheet::specs::Bytes::arity))]
 fn scoped(s: &[u8], ends: &[u16; Sheet::NODES], i: Node) -> bool
     requires formed { Formed s.now }
     requires ends { bytes.Ends s.now ends.now }
@@ -181,6 +187,7 @@ fn type_in(table: &[u16; Sheet::NODES], i: Node) -> ValueType
     }
 }
 
+#[tactic(auto, unfolding(crate::specs::Types::operator_type))]
 fn operator_type(o: Operator, t: ValueType) -> ValueType
     ensures { result ≡ types.operator_type o t }
 {
@@ -197,6 +204,7 @@ fn operator_type(o: Operator, t: ValueType) -> ValueType
 }
 
 // The type of what node b lends to the VARs that name it.
+#[tactic(auto, unfolding(crate::specs::Types::named_type, sheet::specs::Bytes::arity))]
 fn named_type(
     s: &[u8],
     ends: &[u16; Sheet::NODES],
@@ -218,6 +226,7 @@ fn named_type(
 }
 
 // The type of node i, by the types of the nodes that it goes by.
+#[tactic(auto, unfolding(crate::specs::Types::type_by, sheet::specs::Bytes::arity))]
 fn type_by(s: &[u8], ends: &[u16; Sheet::NODES], table: &[u16; Sheet::NODES], i: Node) -> ValueType
     requires formed { Formed s.now }
     requires ends { bytes.Ends s.now ends.now }
@@ -276,6 +285,7 @@ fn same_type(a: ValueType, b: ValueType) -> bool
     }
 }
 
+#[tactic(auto, unfolding(crate::specs::Types::fits))]
 fn fits(o: Operator, a: ValueType, b: ValueType, c: ValueType) -> bool
     ensures { result ≡ types.fits o a b c }
 {
@@ -291,6 +301,7 @@ fn fits(o: Operator, a: ValueType, b: ValueType, c: ValueType) -> bool
     }
 }
 
+#[tactic(auto, unfolding(crate::specs::Types::well_typed))]
 fn well_typed(k: Kind, a: ValueType, b: ValueType, c: ValueType) -> bool
     ensures { result ≡ types.well_typed k a b c }
 {
@@ -318,6 +329,7 @@ fn mistyped(s: &[u8], ends: &[u16; Sheet::NODES], table: &[u16; Sheet::NODES], i
 }
 
 // Guard: more FBYs stand above the VAR than above the REC that it names.
+#[tactic(auto, unfolding(crate::specs::Check::breaks))]
 fn unguarded(s: &[u8], overs: &[u16; Sheet::NODES], i: Node) -> bool
     requires formed { Formed s.now }
     requires scoped { check.Scoped s.now × scope.Overs s.now true overs.now }
@@ -356,6 +368,7 @@ pub fn fill_slots(s: &[u8], table: &mut [u16; Sheet::NODES]) -> usize
     slot as usize
 }
 
+#[tactic(auto, unfolding(crate::specs::Check::breaks))]
 fn slotless(s: &[u8], table: &[u16; Sheet::NODES], i: Node) -> bool
     requires slotted { slots.Slotted s.now table.now }
     requires i_bound { i.0 < bytes.nodes s.now }
@@ -365,6 +378,7 @@ fn slotless(s: &[u8], table: &[u16; Sheet::NODES], i: Node) -> bool
 }
 
 // Whether node i breaks a rule.
+#[tactic(auto, unfolding(crate::specs::Check::breaks))]
 fn breaks(
     s: &[u8],
     rule: Rule,
