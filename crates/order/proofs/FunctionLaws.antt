@@ -1,13 +1,15 @@
 -- Laws that several functions' proofs cite: what `operand` answers by a table of a sound sheet's ends, and a loop over a node's needs.
-use Prim.Native.Nat.{ℕ, ◌+◌, ◌≤◌, ◌<◌}
+use Prim.Native.Nat.{ℕ, ◌+◌, ◌-◌, ◌≤◌, ◌<◌}
 use mathlib.Core.Path.{◌≡◌, sym, ap, ◌∙◌}
 use mathlib.Core.Bool.{Bool, true, false}
-use mathlib.Core.List.{List}
+use mathlib.Core.List.{List, ◌++◌}
 use native.Mathlib.Omega.{arith}
-use lib.ListN.{length, get_or}
+use lib.ListN.{length, get_or, take, drop}
 use borrow.Author.Count.{below_more}
-use Rattle.finite.specs.Lists.{all}
+use Rattle.finite.specs.Lowest.{lowest}
+use Rattle.finite.specs.Lists.{all, member}
 use Rattle.finite.proofs.MemberLaws.{all_by_index, all_not_at}
+use Rattle.table.specs.Order.{house_part, misplaced}
 use Rattle.sheet.specs.Ceilings.{max_nodes}
 use Rattle.sheet.specs.Bytes.{nodes, kind_at, arity, operand, operand_by}
 use Rattle.sheet.specs.declared.Kind.{Kind}
@@ -57,3 +59,22 @@ module _ (s ends : List ℕ) (marks : List Bool) (i count : ℕ) (kind : Kind) (
 
     pub met_not : m ≡ false → Given s ends → i < nodes s → all (mark marks) (needs s i) ≡ false
     met_not f g h = all_not_at (mark marks) (needs s i) k (omega (arith, total)) (need_mark g h ∙ f)
+
+-- ---- the house order while it is built
+
+abbrev pub part : List ℕ → ℕ → List ℕ
+part s p = house_part (nodes s) (needs s) p
+
+-- the order has the first p positions of the house order, and the marks agree with these
+abbrev pub Filled : (s old order : List ℕ) (marks : List Bool) (p : ℕ) → Type 0
+Filled s old order marks p = (order ≡ part s p ++ drop p old) × ((k : ℕ) → mark marks k ≡ member k (part s p))
+
+-- ---- an order while it is tested
+
+abbrev pub bad : (s order : List ℕ) → ℕ → Bool
+bad s order = misplaced (nodes s) (needs s) order
+
+-- no entry before position p is misplaced, and the marks agree with these entries
+pub record Tried (s order : List ℕ) (seen : List Bool) (p : ℕ) : Type 0 where
+  pub none : lowest (bad s order) 0 (nodes s) ≡ lowest (bad s order) p (nodes s - p)
+  pub marks : (k : ℕ) → mark seen k ≡ member k (take p order)

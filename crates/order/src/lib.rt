@@ -1,4 +1,6 @@
 // Needs within a tick, the house order, and the test of an order (rule 15).
+#![tactic(auto)]
+
 ghost use Rattle.std.specs.Prelude.{◌≡◌, false, true, ◌<◌, ◌≤◌, length, get_or, set, replicate};
 ghost use Rattle.finite.specs.Lowest.{lowest};
 ghost use Rattle.finite.specs.Lists.{all};
@@ -31,6 +33,7 @@ pub fn need_count(k: Kind) -> usize
 }
 
 // What a VAR that names b needs.
+#[tactic(auto, unfolding(crate::specs::Needs::named_need))]
 fn named_need(s: &[u8], ends: &[u16; Sheet::NODES], b: Node) -> Node
     ensures { Given s.now ends.now → b.0 < nodes s.now → result.0 ≡ named_need s.now b.0 (kind_at s.now b.0) }
 {
