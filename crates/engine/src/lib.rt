@@ -1,4 +1,6 @@
 // Start, Tick and Run over lent slices. Each takes the sheet's bytes and checks them itself: first all the tests, then the work.
+#![tactic(auto)]
+
 ghost use Rattle.std.specs.Prelude.{◌≡◌, true, cond, List, eqb, ℕ, ◌+◌, ◌*◌, ◌<◌, ◌≤◌, pos, length, get_or, set};
 ghost use Rattle.number.specs.Operators.{truth};
 ghost use Rattle.table.specs.Equations.{at, work};

@@ -1,7 +1,9 @@
 // The meaning of a sheet: its equations over ticks and nodes, the verdicts, and that exactly one set of values meets them.
+#![tactic(auto)]
+
 use sheet::Node;
 
-#[derive(Drop)]
+#[derive(Clone, Copy)]
 pub enum Verdict {
     Pass,
     Fail,
@@ -10,7 +12,7 @@ pub enum Verdict {
 }
 
 // The lowest node that is not PASS with its verdict, or that there is none.
-#[derive(Drop)]
+#[derive(Clone, Copy)]
 pub enum Lowest {
     None,
     Failing(Node, Verdict),
