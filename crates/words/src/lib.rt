@@ -1,4 +1,6 @@
 // The words that more than one program prints: a type and a refusal.
+#![tactic(auto)]
+
 ghost use Rattle.text.specs.Text.{Appends, Puts};
 ghost use Rattle.sheet.specs.Ruling.{number_of, place_of};
 ghost use Rattle.words.specs.Words.{type_word, refused_line};
