@@ -90,11 +90,11 @@ record_word kind code x y z w hy hz hw =
     let e₄ : a % 256 ≡ w = omega arith in
     rw (e₁, e₂, e₃, e₄)
 
-type_byte : (b : ℕ) → b ≤ 1 → type_byte (type_of b) ≡ b
+type_byte_told : (b : ℕ) → b ≤ 1 → type_byte (type_of b) ≡ b
 unfolding type_byte
-type_byte zero l = refl
-type_byte (suc zero) l = refl
-type_byte (suc (suc b)) l = absurd (omega arith)
+type_byte_told zero l = refl
+type_byte_told (suc zero) l = refl
+type_byte_told (suc (suc b)) l = absurd (omega arith)
 
 -- record i, of its parts
 record_at : List ℕ → ℕ → List ℕ
@@ -104,9 +104,9 @@ module _ (s : List ℕ) (bytes : is_bytes s ≡ true) where
   small : (i : ℕ) → byte s i < 256
   small = byte_small s bytes
 
-  record_at : (i : ℕ) → start s i + 6 ≤ length s → record_at s i ≡ take 6 (drop (start s i) s)
+  record_taken : (i : ℕ) → start s i + 6 ≤ length s → record_at s i ≡ take 6 (drop (start s i) s)
   unfolding record_at argument joined
-  record_at i l =
+  record_taken i l =
       let at : ℕ = start s i in
       let e₀ : at + 0 ≡ at = omega arith in
       let e₁ : at + 2 + 1 ≡ at + 3 = omega arith in
@@ -120,14 +120,14 @@ module _ (s : List ℕ) (bytes : is_bytes s ≡ true) where
     unfolding column_type
     types_are =
         joined_cong (λ c. type_byte (column_type s c) ∷ []) (λ c. byte s (4 + c) ∷ []) (columns s)
-        (λ c l. ap (λ (b : ℕ). b ∷ []) (type_byte (byte s (4 + c)) (f.types c l)))
+        (λ c l. ap (λ (b : ℕ). b ∷ []) (type_byte_told (byte s (4 + c)) (f.types c l)))
         ∙ joined-entries s 4 (columns s) 0 (omega (arith, f.whole))
 
     records_are : joined (record_at s) (nodes s) ≡ take (6 * nodes s) (drop (4 + columns s) s)
     unfolding start
     records_are =
         joined_cong (record_at s) (λ i. take 6 (drop (4 + columns s + 6 * i) s)) (nodes s)
-        (λ i l. record_at i (omega (arith, f.whole)))
+        (λ i l. record_taken i (omega (arith, f.whole)))
         ∙ joined-parts s (4 + columns s) 6 (nodes s)
 
     body_is : joined (λ c. type_byte (column_type s c) ∷ []) (columns s) ++ joined (record_at s) (nodes s) ≡ drop 4 s

@@ -68,12 +68,12 @@ is-constant bool zero = refl
 is-constant bool (suc a) = refl
 is-constant int a = rw (integer_number a)
 
-constant_record : (kind : ℕ) (t : ValueType) (a : ℕ) → holds t a ≡ true → a < 4294967296 → constant_record kind (constant t a) ≡ record_of kind (type_byte t) a
+constant_recorded : (kind : ℕ) (t : ValueType) (a : ℕ) → holds t a ≡ true → a < 4294967296 → constant_record kind (constant t a) ≡ record_of kind (type_byte t) a
 unfolding constant_record type_byte computes
-constant_record kind bool zero e l = refl
-constant_record kind bool (suc zero) e l = refl
-constant_record kind bool (suc (suc a)) e l = absurd (omega (arith, leb-true (suc (suc a)) 1 e))
-constant_record kind int a e l = rw (integer_number a, integer_bits a l)
+constant_recorded kind bool zero e l = refl
+constant_recorded kind bool (suc zero) e l = refl
+constant_recorded kind bool (suc (suc a)) e l = absurd (omega (arith, leb-true (suc (suc a)) 1 e))
+constant_recorded kind int a e l = rw (integer_number a, integer_bits a l)
 
 -- no number is a name that the next word belongs to, or a type
 constant_alone : (t : ValueType) (a : ℕ) → (takes_next (constant t a) ≡ false) × (is_type (constant t a) ≡ false)
@@ -109,7 +109,7 @@ unfolding name carried record_told
 const_tells t a e l =
     let alone = constant_alone t a in
     one_word (Const t) a (constant t a) (record_of 0 (type_byte t) a) alone.1 (words-constant t a)
-    (λ v. rw (is-constant t a) (constant_record 0 t a e l)) alone.0
+    (λ v. rw (is-constant t a) (constant_recorded 0 t a e l)) alone.0
 
 input_tells : (a : ℕ) → a < 4294967296 → NodeTells Input a (record_of 1 0 a)
 unfolding computes
@@ -130,7 +130,7 @@ unfolding computes
 fby_tells t a e l =
     let w : List ℕ = name (Fby t) in
     two_words (Fby t) a w (record_of 4 (type_byte t) a) refl (constant t a)
-    (words_part w 32 (constant t a) refl ∙ rw (words-constant t a)) (constant_record 4 t a e l) refl
+    (words_part w 32 (constant t a) refl ∙ rw (words-constant t a)) (constant_recorded 4 t a e l) refl
 
 -- kind by kind and code by code, of a sheet with c columns
 module _ (c : ℕ) where

@@ -1,5 +1,5 @@
 -- Request P1: what the writer and the reader answer, and what the lent room holds at the end.
-use Rattle.std.specs.Prelude.{ℕ, ◌+◌, ◌≡◌, Bool, not, ◌&&◌, List, ◌++◌, ltb, length, drop}
+use Rattle.std.specs.Prelude.{ℕ, ◌≡◌, Bool, not, ◌&&◌, List, ◌++◌, ltb, length, drop}
 use Rattle.finite.specs.Lists.{all, same}
 use Rattle.sheet.specs.Ruling.{Ruling, rule, passes, ◌then◌, Outcome, accepted, turned, answer, at_end, lent_place, number_of, place_of}
 use Rattle.sheet.specs.Form.{form}

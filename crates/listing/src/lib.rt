@@ -1,5 +1,7 @@
 // The listing of a sheet, for installers to read and return: what it is, what sheet a text tells, that each tells the other, and the names
 // that the writer and the reader share.
+#![tactic(auto)]
+
 ghost use Rattle.std.specs.Prelude.{◌≡◌, length};
 ghost use Rattle.text.specs.Text.{Appends};
 ghost use Rattle.sheet.specs.Ceilings.{max_sheet};
@@ -61,6 +63,7 @@ fn put_operator(out: &mut [u8], at: usize, o: Operator) -> usize
 }
 
 // The name of a node with operands; nothing for one that stands bare.
+#[tactic(auto, using(text::proofs::TextLaws::append_none), unfolding(crate::specs::Listing::name))]
 pub fn put_name(out: &mut [u8], at: usize, k: Kind) -> usize
     ensures { Appends (name k) out.old out.new at result }
 {
