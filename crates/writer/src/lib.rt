@@ -1,4 +1,6 @@
 // The listing's writer: from a sheet's bytes to its text in a lent room.
+#![tactic(auto)]
+
 ghost use Rattle.std.specs.Prelude.{◌≡◌, ◌++◌, ◌+◌, ◌-◌, ◌<◌, ◌≤◌, length, get_or, set, replicate};
 ghost use Rattle.finite.specs.Lists.{joined};
 ghost use Rattle.text.specs.Text.{decimal, Appends};
@@ -40,6 +42,7 @@ fn put_numbered(out: &mut [u8], at: usize, letter: &[u8], a: u32) -> usize
     text::put_decimal(out, at, a as u64)
 }
 
+#[tactic(auto, using(text::proofs::TextLaws::append_none, text::proofs::TextLaws::append_then), unfolding(listing::specs::Listing::carried))]
 fn put_carried(out: &mut [u8], at: usize, k: Kind, a: u32) -> usize
     ensures { Appends (text.carried k a) out.old out.new at result }
 {
@@ -65,12 +68,14 @@ fn put_carried(out: &mut [u8], at: usize, k: Kind, a: u32) -> usize
 
 // The brackets.
 
+#[tactic(auto, unfolding(listing::specs::Listing::opens))]
 fn opens(k: Kind) -> bool
     ensures { result ≡ text.opens k }
 {
     1 <= sheet::arity(k)
 }
 
+#[tactic(auto, using(text::proofs::TextLaws::append_none), unfolding(listing::specs::Listing::opening))]
 fn put_opening(out: &mut [u8], at: usize, k: Kind) -> usize
     ensures { Appends (text.opening k) out.old out.new at result }
 {
