@@ -1,5 +1,7 @@
 // The listing's reader: from a text to the sheet's bytes in a lent room. Each word is read for itself, and the sheet that the words tell is
 // believed only where the text is that sheet's listing.
+#![tactic(auto)]
+
 ghost use Rattle.std.specs.Prelude.{◌≡◌, ◌-◌, ◌/◌, ◌%◌, ◌<◌, ◌≤◌, false, cond, not, length, drop, slice_set};
 ghost use Rattle.text.specs.Text.{Appends};
 ghost use Rattle.listing.specs.Telling as telling;
@@ -13,6 +15,7 @@ use sheet::{Lent, Refusal, Sheet};
 
 // The words of a text.
 
+#[tactic(auto, unfolding(listing::specs::Telling::parts))]
 fn parts(b: u8) -> bool
     ensures { result ≡ telling.parts b }
 {
@@ -42,6 +45,7 @@ fn place_from(text: &[u8], at: usize, parting: bool) -> usize
 
 // Where the next word starts, and where a word ends.
 
+#[tactic(auto, unfolding(crate::specs::Places::word_from))]
 fn word_from(text: &[u8], at: usize) -> usize
     requires { at ≤ length text.now }
     ensures { Place text.now at (word_from text.now at) result }
@@ -49,6 +53,7 @@ fn word_from(text: &[u8], at: usize) -> usize
     place_from(text, at, false)
 }
 
+#[tactic(auto, unfolding(crate::specs::Places::word_to))]
 fn word_to(text: &[u8], from: usize) -> usize
     requires { from ≤ length text.now }
     ensures { Place text.now from (word_to text.now from) result }
@@ -58,12 +63,14 @@ fn word_to(text: &[u8], from: usize) -> usize
 
 // What a word is.
 
+#[tactic(auto, unfolding(listing::specs::Telling::is_number))]
 fn is_number(word: &[u8]) -> bool
     ensures { result ≡ telling.is_number word.now }
 {
     sheet::byte(word, 0) < 58
 }
 
+#[tactic(auto, unfolding(listing::specs::Telling::is_constant))]
 fn is_constant(word: &[u8]) -> bool
     ensures { result ≡ telling.is_constant word.now }
 {
@@ -76,6 +83,7 @@ fn negative(n: u32) -> u32
     std::num::wrapping_sub_u32(0, n)
 }
 
+#[tactic(auto, unfolding(listing::specs::Telling::bits_of))]
 fn bits_of(word: &[u8]) -> u32
     ensures { result ≡ telling.bits_of word.now }
 {
@@ -86,18 +94,21 @@ fn bits_of(word: &[u8]) -> u32
     }
 }
 
+#[tactic(auto, unfolding(listing::specs::Telling::numbered))]
 fn numbered(word: &[u8], letter: u8) -> bool
     ensures { result ≡ telling.numbered letter word.now }
 {
     (sheet::byte(word, 0) == letter) & (sheet::byte(word, 1) < 58)
 }
 
+#[tactic(auto, unfolding(listing::specs::Telling::is_type))]
 fn is_type(word: &[u8]) -> bool
     ensures { result ≡ telling.is_type word.now }
 {
     text::same(word, b"bool") | text::same(word, b"int")
 }
 
+#[tactic(auto, unfolding(listing::specs::Telling::type_no))]
 fn type_no(word: &[u8]) -> u8
     ensures { result ≡ telling.type_no word.now }
 {
@@ -141,6 +152,7 @@ fn name_no(word: &[u8]) -> u8
 
 // The record that a word tells.
 
+#[tactic(auto, unfolding(listing::specs::Telling::record_of))]
 fn put_record(out: &mut [u8], at: usize, kind: u8, code: u8, a: u32) -> usize
     ensures { Appends (telling.record_of kind code a) out.old out.new at result }
 {
@@ -155,6 +167,7 @@ fn put_record(out: &mut [u8], at: usize, kind: u8, code: u8, a: u32) -> usize
     text::put(out, at, &record)
 }
 
+#[tactic(auto, unfolding(listing::specs::Telling::constant_record))]
 fn put_constant(out: &mut [u8], at: usize, kind: u8, word: &[u8]) -> usize
     ensures { Appends (telling.constant_record kind word.now) out.old out.new at result }
 {
@@ -165,6 +178,7 @@ fn put_constant(out: &mut [u8], at: usize, kind: u8, word: &[u8]) -> usize
     put_record(out, at, kind, 0, value)
 }
 
+#[tactic(auto, unfolding(listing::specs::Telling::name_record))]
 fn put_named(out: &mut [u8], at: usize, n: u8, next: &[u8]) -> usize
     ensures { Appends (telling.name_record n next.now) out.old out.new at result }
 {
@@ -177,6 +191,7 @@ fn put_named(out: &mut [u8], at: usize, n: u8, next: &[u8]) -> usize
     put_record(out, at, kind_no(n), code_no(n), 0)
 }
 
+#[tactic(auto, unfolding(listing::specs::Telling::record_told))]
 fn put_told(out: &mut [u8], at: usize, word: &[u8], next: &[u8]) -> usize
     ensures { Appends (telling.record_told word.now next.now) out.old out.new at result }
 {
@@ -192,6 +207,7 @@ fn put_told(out: &mut [u8], at: usize, word: &[u8], next: &[u8]) -> usize
     put_named(out, at, name_no(word), next)
 }
 
+#[tactic(auto, unfolding(listing::specs::Telling::takes_next))]
 fn takes_next(word: &[u8]) -> bool
     ensures { result ≡ telling.takes_next word.now }
 {
@@ -201,7 +217,7 @@ fn takes_next(word: &[u8]) -> bool
 // The sheet that a text tells.
 
 // How many type words there are, where the next word starts, and how much of the sheet is put.
-#[derive(Drop)]
+#[derive(Clone, Copy)]
 struct Types {
     count: usize,
     at: usize,
