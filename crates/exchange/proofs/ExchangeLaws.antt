@@ -1,6 +1,6 @@
 -- What is printed of the writer's and the reader's answers, where the first of their rules are those of the sheet or the text and the last is
 -- that of the room.
-use Prim.Native.Nat.{ℕ, ◌+◌, ◌-◌, ◌≤◌, ◌<◌}
+use Prim.Native.Nat.{ℕ, ◌-◌, ◌≤◌, ◌<◌}
 use mathlib.Core.Path.{◌≡◌, refl, sym, ap, ◌∙◌}
 use mathlib.Core.Bool.{true, not}
 use mathlib.Core.List.{List, [], ◌∷◌, ◌++◌}

@@ -1,4 +1,6 @@
 // What sheetlist and sheetread print: from the bytes of standard input to the bytes of standard output.
+#![tactic(auto)]
+
 ghost use Rattle.std.specs.Prelude.{◌≡◌, ◌≤◌, length, take};
 ghost use Rattle.text.specs.Text.{Prints};
 ghost use Rattle.exchange.specs.Exchange as printed;
