@@ -6,7 +6,6 @@ use Rattle.finite.proofs.CountLaws.{count_lt, count_step_yes, count_step_no}
 use Rattle.finite.proofs.GatherLaws.{gather-at}
 use Rattle.finite.proofs.LowestLaws.{lowest_start, lowest-next}
 use Rattle.number.proofs.Bridge.{back_ok}
-use Rattle.number.specs.declared.Operator.{Operator}
 use Rattle.sheet.specs.Bytes.{nodes, kind_at, is_fby}
 use Rattle.sheet.specs.declared.ValueType.{ValueType}
 use Rattle.sheet.specs.declared.ValueType.TheVariants.{Int as int}

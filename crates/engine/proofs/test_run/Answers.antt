@@ -1,29 +1,20 @@
-use Rattle.std.proofs.Common.{rules, ◌≡◌, true, cond, List, eqb, ℕ, ◌+◌, ◌*◌, ◌<◌, ◌≤◌, pos, length, get_or, set, ◌-◌, ◌/◌, ◌%◌, Bool, false, nat_lt, [], ◌∷◌, ◌++◌, bit_and, bit_or, Fits, w8, w32, w64, Bor, MutBor}
-use Rattle.number.specs.Operators.{truth}
-use Rattle.table.specs.Equations.{at, work}
-use Rattle.sheet.specs.Ceilings.{max_nodes, max_slots}
-use Rattle.sheet.specs.Ruling.{told}
-use Rattle.sheet.specs.Bytes.{nodes, columns, operand_by}
-use Rattle.rules.specs.Slots.{slots, Slotted}
-use Rattle.rules.specs.Check.{sheet}
-use Rattle.order.specs.Needs.{Given}
-use Rattle.order.specs.Orders.{RightOrder}
-use Rattle.meaning.specs.Equations as equations
-use Rattle.meaning.specs.Verdicts as verdicts
-use Rattle.meaning.specs.Local.{sides, local_value}
-use Rattle.meaning.specs.Cells.{start_cells, next_cells, held}
-use Rattle.engine.specs.Rows as faults
-use Rattle.engine.specs.Operations as operations
+-- Each test of the code is a rule of the run.
+use Rattle.std.proofs.Common.{lt-ltb, le-ltb}
+use Rattle.sheet.specs.Ruling.{rule, ◌then◌}
+use Rattle.engine.specs.Operations.{run_tests}
 use Rattle.engine.proofs.test_run.Goals as goal
 
--- src/lib.rt:472:9
 pub returns-then-not-whole_rows : goal.returns-then-not-whole_rows
-returns-then-not-whole_rows c = ?
+unfolding run_tests rule ◌then◌
+returns-then-not-whole_rows c = simp (← c.byte.ensures, ← c.whole_rows.ensures, c.if-not-whole_rows.true)
 
--- src/lib.rt:475:9
 pub returns-then-ticks-gt-ROWS : goal.returns-then-ticks-gt-ROWS
-returns-then-ticks-gt-ROWS c = ?
+unfolding run_tests rule ◌then◌
+returns-then-ticks-gt-ROWS c =
+    simp (← c.byte.ensures, ← c.whole_rows.ensures, c.if-not-whole_rows.false, lt-ltb _ _ c.if-ticks-gt-ROWS.true)
 
--- src/lib.rt:468:1
 pub returns : goal.returns
-returns c = ?
+unfolding run_tests rule ◌then◌
+returns c =
+    simp (← c.byte.ensures, ← c.whole_rows.ensures, c.if-not-whole_rows.false, le-ltb _ _ c.if-ticks-gt-ROWS.false)
+    c.test_rows.ensures

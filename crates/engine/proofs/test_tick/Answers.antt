@@ -1,37 +1,29 @@
-use Rattle.std.proofs.Common.{rules, ◌≡◌, true, cond, List, eqb, ℕ, ◌+◌, ◌*◌, ◌<◌, ◌≤◌, pos, length, get_or, set, ◌-◌, ◌/◌, ◌%◌, Bool, false, nat_lt, [], ◌∷◌, ◌++◌, bit_and, bit_or, Fits, w8, w32, w64, Bor, MutBor}
-use Rattle.number.specs.Operators.{truth}
-use Rattle.table.specs.Equations.{at, work}
-use Rattle.sheet.specs.Ceilings.{max_nodes, max_slots}
-use Rattle.sheet.specs.Ruling.{told}
-use Rattle.sheet.specs.Bytes.{nodes, columns, operand_by}
-use Rattle.rules.specs.Slots.{slots, Slotted}
-use Rattle.rules.specs.Check.{sheet}
-use Rattle.order.specs.Needs.{Given}
-use Rattle.order.specs.Orders.{RightOrder}
-use Rattle.meaning.specs.Equations as equations
-use Rattle.meaning.specs.Verdicts as verdicts
-use Rattle.meaning.specs.Local.{sides, local_value}
-use Rattle.meaning.specs.Cells.{start_cells, next_cells, held}
-use Rattle.engine.specs.Rows as faults
-use Rattle.engine.specs.Operations as operations
+-- Each test that passes hands the ruling on to the next; the first that does not is the answer.
+use Rattle.std.proofs.Common.{sym, ◌∙◌}
+use Rattle.sheet.specs.Ruling.{◌then◌}
+use Rattle.engine.specs.Operations.{tick_tests}
+use Rattle.engine.proofs.RuleLaws.{lent_exactly}
 use Rattle.engine.proofs.test_tick.Goals as goal
 
--- src/lib.rt:446:9
 pub returns-in-Refused : goal.returns-in-Refused
-returns-in-Refused c = ?
+unfolding tick_tests ◌then◌
+returns-in-Refused c = rw (← c.in-Refused.ensures _ c.requires.z_value)
 
--- src/lib.rt:448:33
 pub test_rows-requires : goal.test_rows-requires
-test_rows-requires c = ?
+test_rows-requires c e = ((lent_exactly _ _ _ _ _).0 (sym (c.in_default.ensures _ c.requires.z_value))).0 ∙ e
 
--- src/lib.rt:449:9
 pub returns-in-Refused-test_rows : goal.returns-in-Refused-test_rows
-returns-in-Refused-test_rows c = ?
+unfolding tick_tests ◌then◌
+returns-in-Refused-test_rows c = rw (← c.in_default.ensures _ c.requires.z_value, ← c.in-Refused-test_rows.ensures)
 
--- src/lib.rt:452:9
 pub returns-in-Refused-test_cells : goal.returns-in-Refused-test_cells
-returns-in-Refused-test_cells c = ?
+unfolding tick_tests ◌then◌
+returns-in-Refused-test_cells c =
+    rw (← c.in_default.ensures _ c.requires.z_value, ← c.in_default-test_rows.ensures, ← c.in-Refused-test_cells.ensures)
 
--- src/lib.rt:432:1
 pub returns : goal.returns
-returns c = ?
+unfolding tick_tests ◌then◌
+returns c =
+    let lent = sym (c.in_default.ensures _ c.requires.z_value) in
+    rw (lent, ← c.in_default-test_rows.ensures, ← c.in_default-test_cells.ensures)
+    (c.test_order.ensures c.requires.given ((lent_exactly _ _ _ _ _).0 lent).1.1.0)

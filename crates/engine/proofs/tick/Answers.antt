@@ -1,61 +1,42 @@
-use Rattle.std.proofs.Common.{rules, ◌≡◌, true, cond, List, eqb, ℕ, ◌+◌, ◌*◌, ◌<◌, ◌≤◌, pos, length, get_or, set, ◌-◌, ◌/◌, ◌%◌, Bool, false, nat_lt, [], ◌∷◌, ◌++◌, bit_and, bit_or, Fits, w8, w32, w64, Bor, MutBor}
-use Rattle.number.specs.Operators.{truth}
-use Rattle.table.specs.Equations.{at, work}
-use Rattle.sheet.specs.Ceilings.{max_nodes, max_slots}
-use Rattle.sheet.specs.Ruling.{told}
-use Rattle.sheet.specs.Bytes.{nodes, columns, operand_by}
-use Rattle.rules.specs.Slots.{slots, Slotted}
-use Rattle.rules.specs.Check.{sheet}
-use Rattle.order.specs.Needs.{Given}
-use Rattle.order.specs.Orders.{RightOrder}
-use Rattle.meaning.specs.Equations as equations
-use Rattle.meaning.specs.Verdicts as verdicts
-use Rattle.meaning.specs.Local.{sides, local_value}
-use Rattle.meaning.specs.Cells.{start_cells, next_cells, held}
-use Rattle.engine.specs.Rows as faults
-use Rattle.engine.specs.Operations as operations
+-- Check's refusal is the answer, then that of the tests; else the tick is worked, and the answer is read off its values.
+use Rattle.engine.proofs.RuleLaws.{tick_exactly}
+use Rattle.engine.proofs.OperationLaws.{size_by, rules_by, given_by, tick_refused, tick_turned, tick_passed, tick_done}
 use Rattle.engine.proofs.tick.Goals as goal
 
--- src/lib.rt:509:41
 pub test_tick-requires-clause-given : goal.test_tick-requires-clause-given
-test_tick-requires-clause-given c = ?
+test_tick-requires-clause-given c = given_by _ _ c.in-Accepted.ensures.result_value c.judge-checked.ensures.tables
 
--- src/lib.rt:509:41
 pub test_tick-requires-clause-z_value : goal.test_tick-requires-clause-z_value
-test_tick-requires-clause-z_value c = ?
+test_tick-requires-clause-z_value c = size_by _ _ c.in-Accepted.ensures.result_value
 
--- src/lib.rt:510:17
 pub returns-in-Refused-test_tick : goal.returns-in-Refused-test_tick
-returns-in-Refused-test_tick c = ?
+returns-in-Refused-test_tick c =
+    tick_turned _ _ _ _ _ c.in-Accepted.ensures.result_value _ c.in-Refused-test_tick.ensures
 
--- src/lib.rt:512:13
 pub step-requires-clause-given : goal.step-requires-clause-given
-step-requires-clause-given c = ?
+step-requires-clause-given c = given_by _ _ c.in-Accepted.ensures.result_value c.judge-checked.ensures.tables
 
--- src/lib.rt:512:13
 pub step-requires-clause-slotted : goal.step-requires-clause-slotted
-step-requires-clause-slotted c = ?
+step-requires-clause-slotted c = (c.judge-checked.ensures.tables (rules_by _ _ c.in-Accepted.ensures.result_value)).slotted
 
--- src/lib.rt:512:13
 pub step-requires-clause-right_order : goal.step-requires-clause-right_order
-step-requires-clause-right_order c = ?
+step-requires-clause-right_order c =
+    ((tick_exactly _ _ _ _ _).0 (tick_passed _ _ _ _ c.args.values.now c.in-Accepted.ensures.result_value c.in_default.ensures)).2
 
--- src/lib.rt:512:13
 pub step-requires-clause-cells_len : goal.step-requires-clause-cells_len
-step-requires-clause-cells_len c = ?
+step-requires-clause-cells_len c =
+    ((tick_exactly _ _ _ _ _).0 (tick_passed _ _ _ _ c.args.values.now c.in-Accepted.ensures.result_value c.in_default.ensures)).0.cells-size
 
--- src/lib.rt:512:13
 pub step-requires-clause-values_len : goal.step-requires-clause-values_len
-step-requires-clause-values_len c = ?
+step-requires-clause-values_len c =
+    ((tick_exactly _ _ _ _ _).0 (tick_passed _ _ _ _ c.args.values.now c.in-Accepted.ensures.result_value c.in_default.ensures)).1
 
--- src/lib.rt:513:26
 pub answer_of-requires : goal.answer_of-requires
-answer_of-requires c = ?
+answer_of-requires c = given_by _ _ c.in-Accepted.ensures.result_value c.judge-checked.ensures.tables
 
--- src/lib.rt:500:1
 pub returns-in-Refused : goal.returns-in-Refused
-returns-in-Refused c = ?
+returns-in-Refused c = tick_refused _ _ _ _ _ _ c.in-Refused.ensures.result_value
 
--- src/lib.rt:500:1
 pub returns-in_default : goal.returns-in_default
-returns-in_default c = ?
+returns-in_default c =
+    tick_done _ _ _ _ _ c.in-Accepted.ensures.result_value c.in_default.ensures _ _ _ c.step.ensures c.answer_of.ensures

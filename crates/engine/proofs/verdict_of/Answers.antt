@@ -1,17 +1,14 @@
 -- An arm for a CHECK and one for a CONTRACT, by the truth of their operands; the last arm answers PASS.
 use Rattle.std.proofs.Common.{◌≡◌, ℕ, ◌<◌, Bool, cond, List, ℤ, pos, refl, sym, arith}
 use Rattle.number.specs.Operators.{truth}
-use Rattle.number.specs.declared.Operator.{Operator}
 use Rattle.table.specs.Equations.{at}
 use Rattle.sheet.specs.Ceilings.{max_nodes}
 use Rattle.sheet.specs.Bytes.{nodes, kind_at, arity, operand, operand_by}
-use Rattle.sheet.specs.declared.ValueType.{ValueType}
 use Rattle.sheet.specs.declared.Kind.{Kind}
 use Rattle.sheet.specs.declared.Kind.TheVariants.{Const, Input, Var, Op, Fby, Rec, Let, Check, Contract, Unknown}
 use Rattle.sheet.proofs.SheetLaws.{operand_by_table}
 use Rattle.order.specs.Needs.{Given}
 use Rattle.meaning.specs.Verdicts.{contract_verdict, verdict_by, verdict}
-use Rattle.meaning.specs.declared.Verdict.{Verdict}
 use Rattle.meaning.specs.declared.Verdict.TheVariants.{Pass, Fail}
 use Rattle.engine.proofs.verdict_of.Goals as goal
 
