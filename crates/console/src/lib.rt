@@ -1,4 +1,6 @@
 // What sheetrun prints: from the bytes of standard input to the bytes of standard output, over the public operations alone.
+#![tactic(auto)]
+
 ghost use Rattle.std.specs.Prelude.{◌≡◌, ℕ, ◌+◌, ◌*◌, ◌/◌, ◌<◌, ◌≤◌, min, ℤ, length};
 ghost use Rattle.text.specs.Text.{Appends, Puts, Prints};
 ghost use Rattle.sheet.specs.Ruling.{passed};
@@ -16,7 +18,7 @@ use rules::Checked;
 use sheet::{Lent, Refusal, Sheet};
 
 // An input: how many of its first bytes are the sheet. The rest are rows.
-#[derive(Drop)]
+#[derive(Clone, Copy)]
 pub struct Input {
     pub sheet: usize,
 }
