@@ -1,12 +1,15 @@
-// sheetop: runs any operation on the requests of standard input, and prints its answer and the end contents of every lent slice.
+// sheetop: runs any operation on the requests of an input, and prints its answer and the end contents of every lent slice.
+#![tactic(auto)]
+
 use engine::{Answer, Ran, Ticked};
 use listing::Listed;
 use rules::Checked;
 use sheet::{Judged, Refusal};
+use std::io;
 
 // A request: its letter, and how many sheet bytes or bytes of text, ints of the rows, cells, order entries, and values, outputs or bytes
 // of room it has.
-#[derive(Drop)]
+#[derive(Clone, Copy)]
 struct Request {
     letter: u8,
     sheet: usize,
@@ -36,67 +39,69 @@ const LENT_TEXT: u8 = 35;
 
 const LENT_BYTES: u8 = 170;
 
-fn say(words: &[u8]) {
-    io::write_all(1, words);
+fn say<W: io::Write>(to: &mut W, words: &[u8]) -> io::Result<()> {
+    to.write_all(words)
 }
 
-fn say_line(line: &[u8], at: usize) {
+fn say_line<W: io::Write>(to: &mut W, line: &[u8], at: usize) -> io::Result<()> {
     if at <= line.len() {
-        io::write_all(1, &line[..at]);
+        to.write_all(&line[..at])?;
     }
+    Ok(())
 }
 
-fn end_line(line: &mut [u8; 4096], at: usize) {
+fn end_line<W: io::Write>(to: &mut W, line: &mut [u8; 4096], at: usize) -> io::Result<()> {
     let at = text::put(line, at, b"\n");
-    say_line(line, at);
+    say_line(to, line, at)
 }
 
 // A lent slice: its name and its entries. A line that gets long is written out in pieces.
 
-fn in_pieces(line: &mut [u8; 4096], at: usize) -> usize {
+fn in_pieces<W: io::Write>(to: &mut W, line: &mut [u8; 4096], at: usize) -> io::Result<usize> {
     if 4000 < at {
-        say_line(line, at);
-        0
+        say_line(to, line, at)?;
+        Ok(0)
     } else {
-        at
+        Ok(at)
     }
 }
 
-fn put_entry(line: &mut [u8; 4096], at: usize, v: i32) -> usize {
+fn put_entry<W: io::Write>(
+    to: &mut W,
+    line: &mut [u8; 4096],
+    at: usize,
+    v: i32,
+) -> io::Result<usize> {
     let at = text::put(line, at, b" ");
     let at = text::put_integer(line, at, v);
-    in_pieces(line, at)
+    in_pieces(to, line, at)
 }
 
-fn say_ints(name: &[u8], xs: &[i32]) {
-    let mut line = io::buffer();
+fn say_ints<W: io::Write>(to: &mut W, name: &[u8], xs: &[i32]) -> io::Result<()> {
+    let mut line = [0u8; 4096];
     let mut at = text::put(&mut line, 0, name);
-    let mut i = 0;
-    while i < xs.len() {
-        at = put_entry(&mut line, at, xs[i]);
-        i += 1;
+    for x in xs {
+        at = put_entry(to, &mut line, at, *x)?;
     }
-    end_line(&mut line, at);
+    end_line(to, &mut line, at)
 }
 
-fn say_entries(name: &[u8], xs: &[u16]) {
-    let mut line = io::buffer();
+fn say_entries<W: io::Write>(to: &mut W, name: &[u8], xs: &[u16]) -> io::Result<()> {
+    let mut line = [0u8; 4096];
     let mut at = text::put(&mut line, 0, name);
-    let mut i = 0;
-    while i < xs.len() {
-        at = put_entry(&mut line, at, xs[i] as i32);
-        i += 1;
+    for x in xs {
+        at = put_entry(to, &mut line, at, *x as i32)?;
     }
-    end_line(&mut line, at);
+    end_line(to, &mut line, at)
 }
 
-fn say_text(name: &[u8], text: &[u8]) {
-    say(name);
+fn say_text<W: io::Write>(to: &mut W, name: &[u8], text: &[u8]) -> io::Result<()> {
+    say(to, name)?;
     if 0 < text.len() {
-        say(b" ");
-        say(text);
+        say(to, b" ")?;
+        say(to, text)?;
     }
-    say(b"\n");
+    say(to, b"\n")
 }
 
 fn hexadecimal(digit: u8) -> u8 {
@@ -107,40 +112,43 @@ fn hexadecimal(digit: u8) -> u8 {
     }
 }
 
-fn put_byte(line: &mut [u8; 4096], at: usize, b: u8) -> usize {
+fn put_byte<W: io::Write>(
+    to: &mut W,
+    line: &mut [u8; 4096],
+    at: usize,
+    b: u8,
+) -> io::Result<usize> {
     let word = [b' ', hexadecimal(b / 16), hexadecimal(b % 16)];
     let at = text::put(line, at, &word);
-    in_pieces(line, at)
+    in_pieces(to, line, at)
 }
 
-fn say_bytes(name: &[u8], xs: &[u8]) {
-    let mut line = io::buffer();
+fn say_bytes<W: io::Write>(to: &mut W, name: &[u8], xs: &[u8]) -> io::Result<()> {
+    let mut line = [0u8; 4096];
     let mut at = text::put(&mut line, 0, name);
-    let mut i = 0;
-    while i < xs.len() {
-        at = put_byte(&mut line, at, xs[i]);
-        i += 1;
+    for x in xs {
+        at = put_byte(to, &mut line, at, *x)?;
     }
-    end_line(&mut line, at);
+    end_line(to, &mut line, at)
 }
 
 // The answers.
 
-fn say_refusal(r: Refusal) {
-    let mut line = io::buffer();
+fn say_refusal<W: io::Write>(to: &mut W, r: Refusal) -> io::Result<()> {
+    let mut line = [0u8; 4096];
     let at = words::put_refusal(&mut line, 0, r);
-    say_line(&line, at);
+    say_line(to, &line, at)
 }
 
-fn say_judged(r: Judged) {
+fn say_judged<W: io::Write>(to: &mut W, r: Judged) -> io::Result<()> {
     match r {
-        Judged::Passed => say(b"ok\n"),
-        Judged::Refused(r) => say_refusal(r),
+        Judged::Passed => say(to, b"ok\n"),
+        Judged::Refused(r) => say_refusal(to, r),
     }
 }
 
-fn say_answer(a: Answer) {
-    let mut line = io::buffer();
+fn say_answer<W: io::Write>(to: &mut W, a: Answer) -> io::Result<()> {
+    let mut line = [0u8; 4096];
     let at = text::put(&mut line, 0, b"ok ");
     let at = text::put_integer(&mut line, at, a.root);
     let at = text::put(&mut line, at, b" ");
@@ -148,133 +156,138 @@ fn say_answer(a: Answer) {
     let at = text::put(&mut line, at, b" ");
     let lowest = a.lowest;
     let at = console::put_lowest(&mut line, at, lowest);
-    end_line(&mut line, at);
+    end_line(to, &mut line, at)
 }
 
-fn say_count(n: usize) {
-    let mut line = io::buffer();
+fn say_count<W: io::Write>(to: &mut W, n: usize) -> io::Result<()> {
+    let mut line = [0u8; 4096];
     let at = text::put(&mut line, 0, b"ok ");
     let at = text::put_decimal(&mut line, at, n as u64);
-    end_line(&mut line, at);
+    end_line(to, &mut line, at)
 }
 
-fn say_listed(l: Listed) {
+fn say_listed<W: io::Write>(to: &mut W, l: Listed) -> io::Result<()> {
     match l {
-        Listed::Length(n) => say_count(n),
-        Listed::Refused(r) => say_refusal(r),
+        Listed::Length(n) => say_count(to, n),
+        Listed::Refused(r) => say_refusal(to, r),
     }
 }
 
 // The operations.
 
-fn check(s: &[u8]) {
+fn check<W: io::Write>(to: &mut W, s: &[u8]) -> io::Result<()> {
     let checked = rules::check(s);
     match checked {
-        Checked::Refused(r) => say_refusal(r),
+        Checked::Refused(r) => say_refusal(to, r),
         Checked::Accepted(z) => {
-            let mut line = io::buffer();
+            let mut line = [0u8; 4096];
             let at = console::put_ok(&mut line, 0, z);
-            say_line(&line, at);
+            say_line(to, &line, at)
         }
     }
 }
 
-fn house(s: &[u8], order: &mut [u16]) {
-    say_judged(order::house_order(s, order));
-    say_entries(b"order", &*order);
+fn house<W: io::Write>(to: &mut W, s: &[u8], order: &mut [u16]) -> io::Result<()> {
+    say_judged(to, order::house_order(s, order))?;
+    say_entries(to, b"order", &*order)
 }
 
-fn start(s: &[u8], cells: &mut [i32]) {
-    say_judged(engine::start(s, cells));
-    say_ints(b"cells", &*cells);
+fn start<W: io::Write>(to: &mut W, s: &[u8], cells: &mut [i32]) -> io::Result<()> {
+    say_judged(to, engine::start(s, cells))?;
+    say_ints(to, b"cells", &*cells)
 }
 
-fn tick(s: &[u8], row: &[i32], cells: &mut [i32], order: &[u16], values: &mut [i32]) {
+fn tick<W: io::Write>(
+    to: &mut W,
+    s: &[u8],
+    row: &[i32],
+    cells: &mut [i32],
+    order: &[u16],
+    values: &mut [i32],
+) -> io::Result<()> {
     let ticked = engine::tick(s, row, cells, order, values);
     match ticked {
-        Ticked::Done(a) => say_answer(a),
-        Ticked::Refused(r) => say_refusal(r),
+        Ticked::Done(a) => say_answer(to, a)?,
+        Ticked::Refused(r) => say_refusal(to, r)?,
     }
-    say_ints(b"cells", &*cells);
-    say_ints(b"values", &*values);
+    say_ints(to, b"cells", &*cells)?;
+    say_ints(to, b"values", &*values)
 }
 
-fn run(s: &[u8], rows: &[i32], outputs: &mut [i32]) {
+fn run<W: io::Write>(to: &mut W, s: &[u8], rows: &[i32], outputs: &mut [i32]) -> io::Result<()> {
     let ran = engine::run(s, rows, outputs);
     match ran {
-        Ran::Finished(failing) => say_count(failing),
-        Ran::Refused(r) => say_refusal(r),
+        Ran::Finished(failing) => say_count(to, failing)?,
+        Ran::Refused(r) => say_refusal(to, r)?,
     }
-    say_ints(b"outputs", &*outputs);
+    say_ints(to, b"outputs", &*outputs)
 }
 
-fn write(s: &[u8], room: &mut [u8]) {
-    say_listed(writer::write(s, room));
-    say_text(b"text", &*room);
+fn write<W: io::Write>(to: &mut W, s: &[u8], room: &mut [u8]) -> io::Result<()> {
+    say_listed(to, writer::write(s, room))?;
+    say_text(to, b"text", &*room)
 }
 
-fn read(text: &[u8], room: &mut [u8]) {
-    say_listed(reader::read(text, room));
-    say_bytes(b"bytes", &*room);
+fn read<W: io::Write>(to: &mut W, text: &[u8], room: &mut [u8]) -> io::Result<()> {
+    say_listed(to, reader::read(text, room))?;
+    say_bytes(to, b"bytes", &*room)
 }
 
-fn perform(
+fn perform<W: io::Write>(
+    to: &mut W,
     letter: u8,
     s: &[u8],
     rows: &[i32],
     cells: &mut [i32],
     order: &mut [u16],
     out: &mut [i32],
-) {
+) -> io::Result<()> {
     match letter {
-        b'c' => check(s),
-        b'h' => house(s, order),
-        b's' => start(s, cells),
-        b't' => tick(s, rows, cells, &*order, out),
-        b'r' => run(s, rows, out),
-        _ => (),
+        b'c' => check(to, s),
+        b'h' => house(to, s, order),
+        b's' => start(to, s, cells),
+        b't' => tick(to, s, rows, cells, &*order, out),
+        b'r' => run(to, s, rows, out),
+        _ => Ok(()),
     }
 }
 
 // Reading.
 
-fn bad() -> bool {
-    say(b"bad request\n");
-    false
+fn bad<W: io::Write>(to: &mut W) -> io::Result<bool> {
+    say(to, b"bad request\n")?;
+    Ok(false)
 }
 
-fn fill(bytes: &mut [u8]) -> bool {
-    io::read_full(0, bytes) == bytes.len()
+fn fill<R: io::Read>(from: &mut R, bytes: &mut [u8]) -> io::Result<bool> {
+    let got = intake::read_full(from, bytes)?;
+    Ok(got == bytes.len())
 }
 
-fn read_ints(ints: &mut [i32]) -> bool {
-    let mut i = 0;
-    while i < ints.len() {
+fn read_ints<R: io::Read>(from: &mut R, ints: &mut [i32]) -> io::Result<bool> {
+    for x in ints.iter_mut() {
         let mut word = [0u8; 4];
-        if !fill(&mut word) {
-            return false;
+        if !fill(from, &mut word)? {
+            return Ok(false);
         }
-        ints[i] = number::of_bits(number::word(word[0], word[1], word[2], word[3]));
-        i += 1;
+        *x = number::of_bits(number::word(word[0], word[1], word[2], word[3]));
     }
-    true
+    Ok(true)
 }
 
 fn pair(high: u8, low: u8) -> u16 {
     high as u16 * 256 + low as u16
 }
 
-fn read_entries(entries: &mut [u16]) -> bool {
-    let mut i = 0;
-    while i < entries.len() {
+fn read_entries<R: io::Read>(from: &mut R, entries: &mut [u16]) -> io::Result<bool> {
+    for x in entries.iter_mut() {
         let mut two = [0u8; 2];
-        if !fill(&mut two) {
-            return false;
+        if !fill(from, &mut two)? {
+            return Ok(false);
         }
-        entries[i] = pair(two[0], two[1]);
-        i += 1;
+        *x = pair(two[0], two[1]);
     }
-    true
+    Ok(true)
 }
 
 // Whether the letter is known, and each length that its operation does not use is 0.
@@ -292,51 +305,53 @@ fn known(r: Request) -> bool {
 }
 
 // Reads the rest of a request and performs it. Answers whether to go on.
-fn answer(
+fn answer<R: io::Read, W: io::Write>(
+    from: &mut R,
+    to: &mut W,
     letter: u8,
     s: &mut [u8],
     rows: &mut [i32],
     cells: &mut [i32],
     order: &mut [u16],
     out: &mut [i32],
-) -> bool {
-    if !fill(&mut *s) {
-        return bad();
+) -> io::Result<bool> {
+    if !fill(from, &mut *s)? {
+        return bad(to);
     }
-    if !read_ints(&mut *rows) {
-        return bad();
+    if !read_ints(from, &mut *rows)? {
+        return bad(to);
     }
-    if !read_ints(&mut *cells) {
-        return bad();
+    if !read_ints(from, &mut *cells)? {
+        return bad(to);
     }
-    if !read_entries(&mut *order) {
-        return bad();
+    if !read_entries(from, &mut *order)? {
+        return bad(to);
     }
-    perform(letter, &*s, &*rows, cells, order, out);
-    true
+    perform(to, letter, &*s, &*rows, cells, order, out)?;
+    Ok(true)
 }
 
 // Answers a request whose lengths are within their limits, and says that any other is bad. Answers whether to go on.
-fn serve(r: Request) -> bool {
+fn serve<R: io::Read, W: io::Write>(from: &mut R, to: &mut W, r: Request) -> io::Result<bool> {
     let l = r.sheet;
     let n = r.rows;
     let k = r.cells;
     let o = r.order;
     let w = r.out;
     if Request::SHEET < l {
-        return bad();
+        return bad(to);
     }
     if Request::ROWS < n {
-        return bad();
+        return bad(to);
     }
     if Request::CELLS < k {
-        return bad();
+        return bad(to);
     }
     if Request::ORDER < o {
-        return bad();
+        return bad(to);
     }
     if Request::OUT < w {
-        return bad();
+        return bad(to);
     }
     let mut s = [0u8; Request::SHEET];
     let mut rows = [0i32; Request::ROWS];
@@ -344,6 +359,8 @@ fn serve(r: Request) -> bool {
     let mut order = [0u16; Request::ORDER];
     let mut out = [LENT; Request::OUT];
     answer(
+        from,
+        to,
         r.letter,
         &mut s[..l],
         &mut rows[..n],
@@ -354,24 +371,36 @@ fn serve(r: Request) -> bool {
 }
 
 // The same for the listing's writer and reader: reads the rest of a request and performs it.
-fn perform_listing(letter: u8, s: &mut [u8], room: &mut [u8]) -> bool {
-    if !fill(&mut *s) {
-        return bad();
+fn perform_listing<R: io::Read, W: io::Write>(
+    from: &mut R,
+    to: &mut W,
+    letter: u8,
+    s: &mut [u8],
+    room: &mut [u8],
+) -> io::Result<bool> {
+    if !fill(from, &mut *s)? {
+        return bad(to);
     }
     if letter == b'w' {
-        write(&*s, room);
+        write(to, &*s, room)?;
     } else {
-        read(&*s, room);
+        read(to, &*s, room)?;
     }
-    true
+    Ok(true)
 }
 
-fn serve_listing(letter: u8, l: usize, w: usize) -> bool {
+fn serve_listing<R: io::Read, W: io::Write>(
+    from: &mut R,
+    to: &mut W,
+    letter: u8,
+    l: usize,
+    w: usize,
+) -> io::Result<bool> {
     if Request::SHEET < l {
-        return bad();
+        return bad(to);
     }
     if Request::OUT < w {
-        return bad();
+        return bad(to);
     }
     let lent = if letter == b'w' {
         LENT_TEXT
@@ -380,18 +409,18 @@ fn serve_listing(letter: u8, l: usize, w: usize) -> bool {
     };
     let mut s = [0u8; Request::SHEET];
     let mut room = [lent; Request::OUT];
-    perform_listing(letter, &mut s[..l], &mut room[..w])
+    perform_listing(from, to, letter, &mut s[..l], &mut room[..w])
 }
 
 // One request. Answers whether to go on.
-fn one_request() -> bool {
+fn one_request<R: io::Read, W: io::Write>(from: &mut R, to: &mut W) -> io::Result<bool> {
     let mut head = [0u8; 11];
-    let got = io::read_full(0, &mut head);
+    let got = intake::read_full(from, &mut head)?;
     if got == 0 {
-        return false;
+        return Ok(false);
     }
     if got < 11 {
-        return bad();
+        return bad(to);
     }
     let r = Request {
         letter: head[0],
@@ -402,21 +431,20 @@ fn one_request() -> bool {
         out: pair(head[9], head[10]) as usize,
     };
     if !known(r) {
-        return bad();
+        return bad(to);
     }
     if (r.letter == b'w') | (r.letter == b'l') {
-        return serve_listing(r.letter, r.sheet, r.out);
+        return serve_listing(from, to, r.letter, r.sheet, r.out);
     }
-    serve(r)
+    serve(from, to, r)
 }
 
-// All requests. A proved loop has to end: it counts its turns down, from a number that no input uses up.
-pub fn serve_all() {
-    let mut turns = u64::MAX;
-    while 0 < turns {
-        if !one_request() {
-            return;
+// All requests. A proved loop has to end: this one has so many turns that no input uses them up. The first read or write that fails ends it.
+pub fn serve_all<R: io::Read, W: io::Write>(from: &mut R, to: &mut W) -> io::Result<()> {
+    for _ in 0..u64::MAX {
+        if !one_request(from, to)? {
+            return Ok(());
         }
-        turns -= 1;
     }
+    Ok(())
 }

@@ -1,4 +1,8 @@
 // sheetop, for support and for testers: see the crate requests.
-fn main() {
-    requests::serve_all();
+#![tactic(auto)]
+
+use std::io;
+
+fn main(rt: HostRuntime) -> io::Result<()> {
+    requests::serve_all(&mut rt.stdin(), &mut rt.stdout())
 }

@@ -1,4 +1,8 @@
 // sheetop on requests of which the second has a letter that names no operation.
-fn main() {
-    requests::serve_all();
+#![tactic(auto)]
+
+use std::io;
+
+fn main(rt: HostRuntime) -> io::Result<()> {
+    requests::serve_all(&mut rt.stdin(), &mut rt.stdout())
 }

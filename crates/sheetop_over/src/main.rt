@@ -1,4 +1,8 @@
 // sheetop on a request with one int of the rows over the limit.
-fn main() {
-    requests::serve_all();
+#![tactic(auto)]
+
+use std::io;
+
+fn main(rt: HostRuntime) -> io::Result<()> {
+    requests::serve_all(&mut rt.stdin(), &mut rt.stdout())
 }
