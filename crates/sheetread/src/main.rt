@@ -1,10 +1,12 @@
 // sheetread: the bytes of the sheet whose listing is on standard input. No listing is as long as an input that fills the buffer.
-use libc::{STDIN_FILENO, STDOUT_FILENO};
+#![tactic(auto)]
 
-fn main() {
-    let mut input = io::large_buffer();
-    let n = io::read_full(STDIN_FILENO, &mut input);
+use std::io;
+
+fn main(rt: HostRuntime) -> io::Result<()> {
+    let mut input = [0u8; 65536];
+    let n = intake::read_full(&mut rt.stdin(), &mut input)?;
     let mut out = exchange::room();
     let r = exchange::sheetread(&input[..n], &mut out);
-    io::write_all(STDOUT_FILENO, &out[..r]);
+    rt.write_all(&out[..r])
 }

@@ -1,11 +1,13 @@
 // sheetrun: a sheet and its rows on standard input, run and printed as document 01 says.
-use console::Input;
-use libc::{STDIN_FILENO, STDOUT_FILENO};
+#![tactic(auto)]
 
-fn main() {
+use console::Input;
+use std::io;
+
+fn main(rt: HostRuntime) -> io::Result<()> {
     let mut input = Input::bytes();
-    let n = io::read_full(STDIN_FILENO, &mut input);
+    let n = intake::read_full(&mut rt.stdin(), &mut input)?;
     let mut text = Input::text();
     let r = console::sheetrun(&input[..n], &mut text);
-    io::write_all(STDOUT_FILENO, &text[..r]);
+    rt.write_all(&text[..r])
 }
