@@ -1,4 +1,5 @@
--- Laws that several functions' proofs cite: what `operand` answers by a table of a sound sheet's ends, and a loop over a node's needs.
+-- What functions' proofs cite: what `operand` answers by a table of a sound sheet's ends, a loop over a node's needs, and the house order and an
+-- order under test, part by part.
 use Prim.Native.Nat.{ℕ, ◌+◌, ◌-◌, ◌≤◌, ◌<◌}
 use mathlib.Core.Path.{◌≡◌, sym, ap, ◌∙◌}
 use mathlib.Core.Bool.{Bool, true, false}

@@ -1,5 +1,5 @@
--- Laws that several functions' proofs cite: operands by the table of ends, the node that a VAR names, rows of
--- rules, and what the last arm of a match on a kind or an operator knows.
+-- What functions' proofs cite: operands by the table of ends, the node that a VAR names, rows of rules, what the last arm of a match on a kind or
+-- an operator knows, and the table of how many nodes stand above each while it is filled.
 use Prim.Native.Nat.{ℕ, ◌<◌}
 use mathlib.Core.Path.{◌≡◌, ◌∙◌}
 use mathlib.Core.Logic.{inl, inr}

@@ -12,7 +12,7 @@ use Rattle.rules.proofs.fill_overs.Goals as goal
 use Rattle.rules.proofs.fill_overs.Goals.{then-counted, else-counted}
 
 module _ {s : List ℕ} (f : Formed s) (p : ℕ → Bool) where
-  -- so at every node up to i
+  -- where the nodes before i are passed, the table is right at every node up to i
   passed_at : (i : ℕ) (table : List ℕ) → Reached s p i table → (j : ℕ) → j ≤ i → j < nodes s → get_or table j 0 ≡ over_of s p j
   passed_at i table d zero l h = d.0 ∙ sym (over_first s p)
   passed_at i table d (suc j) l h =

@@ -18,10 +18,10 @@ refuses : {number place : ℕ} (s : List ℕ) → refused number place ≡ rules
 unfolding check answer
 refuses s e = rw (← e)
 
--- after rules 1 to 6, and after rules 7 to 10
 formed : {s : List ℕ} → passed ≡ form s → Formed s
 formed e = (form_iff _).0 (sym e)
 
+-- what is left of the rules after rules 1 to 6, and after rules 7 to 10
 after_form : (s : List ℕ) → passed ≡ form s → rules s ≡ tree_rules s then ruled s Slots
 unfolding rules ◌then◌
 after_form s e = rw (← e)
