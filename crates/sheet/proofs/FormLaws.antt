@@ -1,6 +1,6 @@
 -- Rules 1 to 6 pass exactly where the plain statements of `Formed` hold.
 use Prim.Native.Nat.{ℕ, ◌+◌, ◌-◌, ◌*◌, ◌≤◌, ◌<◌}
-use mathlib.Core.Path.{◌≡◌, ap}
+use mathlib.Core.Path.{◌≡◌, sym, ap}
 use mathlib.Core.Logic.{◌↔◌}
 use mathlib.Core.Bool.{Bool, true, false, not, ◌&&◌, ◌||◌}
 use mathlib.Core.List.{List}
@@ -28,6 +28,11 @@ module _ (s : List ℕ) where
         λ e. (eqb-true _ _ (and_l fits some (and_l (fits && some) _ e)), leb-true _ _ (and_r fits some (and_l (fits && some) _ e)), leb-true _ _ (and_r (fits && some) _ e)),
         λ h. and_both (fits && some) _ (and_both fits some (eq-eqb _ _ h.0) (le-leb _ _ h.1)) (le-leb _ _ h.2),
       )
+
+  -- a body that passes has no more nodes than the ceiling
+  pub body_few : passed ≡ body s → nodes s ≤ max_nodes
+  unfolding body
+  body_few e = (body-whole.0 (not-false _ ((rule-passed _ _ _).0 (sym e)))).2
 
   formed : form s ≡ passed → Formed s
   unfolding form length_version column_types body records shape

@@ -3,21 +3,20 @@ use Prim.Native.Nat.{ℕ, ◌+◌, ◌≤◌, ◌<◌}
 use mathlib.Core.Path.{◌≡◌, refl, sym, ap, ◌∙◌}
 use mathlib.Core.Logic.{◌↔◌}
 use mathlib.Core.Bool.{Bool, true, false}
+use Rattle.std.proofs.Common.{Result, Ok, Err, rules}
 use mathlib.Core.List.{[], ◌∷◌}
 use native.Mathlib.Omega.{arith}
 use lib.ListN.{get_or}
 use lib.Dec.{ltb}
-use borrow.Author.Tests.{ltb-false, le-ltb}
+use borrow.Author.Tests.{ltb-false, lt-ltb, le-ltb}
 use Rattle.finite.specs.Lowest.{lowest}
 use Rattle.finite.proofs.LowestLaws as low
-use Rattle.sheet.specs.Ruling.{Ruling, passed, refused, rule, each, ◌then◌, accepted, turned, answer, lent_place, number_of, place_of, told}
+use Rattle.sheet.specs.Ruling.{Ruling, passed, refused, rule, each, ◌then◌, accepted, turned, answer, lent_place, number_of, place_of, told, said}
 use Rattle.sheet.specs.declared.Node.{Node}
 use Rattle.sheet.specs.declared.Lent.{Lent}
 use Rattle.sheet.specs.declared.Lent.TheVariants.{Rows, Cells, Order as Orders, Values, Outputs, Room}
 use Rattle.sheet.specs.declared.Refusal.{Refusal}
 use Rattle.sheet.specs.declared.Refusal.TheVariants.{Length, Version, Columns, Body, Record, Shape, Depth, Scope, Types, Unguarded, Slots, Lent as WrongLength, Row, Cell, Order, Text}
-use Rattle.sheet.specs.declared.Judged.{Judged}
-use Rattle.sheet.specs.declared.Judged.TheVariants.{Passed, Refused}
 
 -- ---- rulings that pass
 
@@ -39,10 +38,27 @@ each-passed number breaks from count =
       λ none. r.1 (le-ltb at (from + count) (omega (arith, low.lowest_none breaks from count none))),
     )
 
+-- the lowest that breaks it is the place
+pub each_refused : (number : ℕ) (breaks : ℕ → Bool) (from count i : ℕ) → from ≤ i → i < from + count → breaks i ≡ true
+    → ((j : ℕ) → from ≤ j → j < i → breaks j ≡ false) → refused number i ≡ each number breaks from count
+unfolding each rule
+each_refused number breaks from count i l u broken none =
+    let place : lowest breaks from count ≡ i = low.lowest-is breaks from count i l u broken none in
+    rw (place, lt-ltb i (from + count) u)
+
 pub then_passed : (a b : Ruling) → (a then b ≡ passed) ↔ ((a ≡ passed) × (b ≡ passed))
 unfolding ◌then◌
 then_passed passed b = (λ e. (refl, e), λ e. e.1)
 then_passed (refused number place) b = (not-passed number place, λ e. e.0)
+
+-- what a chain of tests answers, by the test that refuses or by the one that is left
+pub then_refused : (a b : Ruling) (number place : ℕ) → refused number place ≡ a → refused number place ≡ a then b
+unfolding ◌then◌
+then_refused a b number place e = rw (← e)
+
+pub then_next : (a b r : Ruling) → passed ≡ a → r ≡ b → r ≡ a then b
+unfolding ◌then◌
+then_next a b r e h = rw (← e) h
 
 pub answer-accepted : {A : Type 0} (r : Ruling) (a x : A) → (answer r a ≡ accepted x) ↔ ((r ≡ passed) × (a ≡ x))
 unfolding answer
@@ -96,9 +112,16 @@ back Text = refl
 pub one_refusal : (a b : Refusal) → number_of a ≡ number_of b → place_of a ≡ place_of b → a ≡ b
 one_refusal a b n p = sym (back a) ∙ rw (n, p) (back b)
 
--- and what a test's answer says, the answer
-pub one_answer : (a b : Judged) → told a ≡ told b → a ≡ b
-one_answer Passed Passed e = refl
-one_answer Passed (Refused b) e = not-passed _ _ (sym e)
-one_answer (Refused a) Passed e = not-passed _ _ e
-one_answer (Refused a) (Refused b) e = ap Refused (one_refusal a b (cc) (cc))
+-- and what an answer says, the answer
+pub one_said : {A : Type 0} (a b : Result A Refusal) → said a ≡ said b → a ≡ b
+one_said (Ok a) (Ok b) e = ap Ok (cc)
+one_said (Ok a) (Err r) e = let z : ◌≡◌ {A = ℕ} 0 1 = cc in absurd (omega arith)
+one_said (Err r) (Ok b) e = let z : ◌≡◌ {A = ℕ} 0 1 = cc in absurd (omega arith)
+one_said (Err a) (Err b) e = ap Err (one_refusal a b (cc) (cc))
+
+-- of a test, which answers nothing but whether it passes
+pub one_answer : (a b : Result Unit Refusal) → told a ≡ told b → a ≡ b
+one_answer (Ok a) (Ok b) e = ap Ok (search rules)
+one_answer (Ok a) (Err r) e = not-passed _ _ (sym e)
+one_answer (Err r) (Ok b) e = not-passed _ _ e
+one_answer (Err a) (Err b) e = ap Err (one_refusal a b (cc) (cc))

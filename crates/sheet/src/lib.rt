@@ -2,9 +2,8 @@
 #![tactic(auto)]
 
 ghost use Rattle.std.specs.Prelude.{◌≡◌, ◌∷◌, [], ◌<◌, ◌≤◌, length, get_or, set};
-ghost use Rattle.finite.specs.Lowest.{lowest};
 ghost use Rattle.sheet.specs.Ceilings.{ceilings, max_nodes};
-ghost use Rattle.sheet.specs.Ruling.{told, number_of, place_of, lent_place};
+ghost use Rattle.sheet.specs.Ruling.{each, told, number_of, place_of, lent_place};
 ghost use Rattle.sheet.specs.Prefix.{end};
 ghost use Rattle.sheet.specs.Bytes as bytes;
 ghost use Rattle.sheet.specs.Form as form;
@@ -13,26 +12,26 @@ use number::Operator;
 
 // The four counts.
 
-#[derive(Clone, Copy)]
+#[derive(Clone, Copy, Debug, PartialEq, Eq)]
 pub struct Node(pub u16);
 
-#[derive(Clone, Copy)]
+#[derive(Clone, Copy, Debug, PartialEq, Eq)]
 pub struct Slot(pub u16);
 
-#[derive(Clone, Copy)]
+#[derive(Clone, Copy, Debug, PartialEq, Eq)]
 pub struct Column(pub u16);
 
-#[derive(Clone, Copy)]
+#[derive(Clone, Copy, Debug, PartialEq, Eq)]
 pub struct Position(pub u16);
 
-#[derive(Clone, Copy)]
+#[derive(Clone, Copy, Debug, PartialEq, Eq)]
 pub enum ValueType {
     Bool,
     Int,
 }
 
 // An accepted sheet: its node count, column count, slot count and the root's type.
-#[derive(Clone, Copy)]
+#[derive(Clone, Copy, Debug, PartialEq, Eq)]
 pub struct Sheet {
     pub nodes: usize,
     pub columns: usize,
@@ -93,7 +92,7 @@ pub enum Kind {
 }
 
 // A lent slice of a wrong length.
-#[derive(Clone, Copy)]
+#[derive(Clone, Copy, Debug, PartialEq, Eq)]
 pub enum Lent {
     Rows,
     Cells,
@@ -104,7 +103,7 @@ pub enum Lent {
 }
 
 // A refusal: the rule, with its place where it has several.
-#[derive(Clone, Copy)]
+#[derive(Clone, Copy, Debug, PartialEq, Eq)]
 pub enum Refusal {
     Length,
     Version,
@@ -122,12 +121,6 @@ pub enum Refusal {
     Cell(Slot),
     Order(Position),
     Text,
-}
-
-#[derive(Clone, Copy)]
-pub enum Judged {
-    Passed,
-    Refused(Refusal),
 }
 
 impl Refusal {
@@ -202,36 +195,31 @@ pub fn index(i: Node) -> usize
 
 // The bytes.
 
-fn wide(b: u8) -> usize
-    ensures { result ≡ b }
-{
-    b as usize
-}
-
 // A byte, 0 past the end.
 pub fn byte(s: &[u8], at: usize) -> u8
     ensures { result ≡ bytes.byte s.now at }
 {
-    if at < s.len() { s[at] } else { 0 }
+    s.get(at).copied().unwrap_or(0)
+}
+
+fn columns(s: &[u8]) -> usize
+    ensures { (result ≡ bytes.columns s.now) × (result < 256) }
+{
+    usize::from(byte(s, 3))
 }
 
 #[tactic(auto, unfolding(crate::specs::Bytes::nodes))]
 pub fn nodes(s: &[u8]) -> usize
     ensures { result ≡ bytes.nodes s.now }
 {
-    let head = 4 + wide(byte(s, 3));
-    if s.len() < head {
-        0
-    } else {
-        (s.len() - head) / 6
-    }
+    s.len().saturating_sub(4 + columns(s)) / 6
 }
 
 #[tactic(auto, unfolding(crate::specs::Bytes::start))]
 fn start(s: &[u8], i: Node) -> usize
     ensures { (result ≡ bytes.start s.now i.0) × (result < 400000) }
 {
-    4 + wide(byte(s, 3)) + 6 * index(i)
+    4 + columns(s) + 6 * index(i)
 }
 
 // The table of kinds.
@@ -340,7 +328,7 @@ pub fn argument(s: &[u8], i: Node) -> u32
 fn number_of(a: u32) -> u16
     ensures { a < 65536 → result ≡ a }
 {
-    if a < 65536 { a as u16 } else { 65535 }
+    u16::try_from(a).unwrap_or(u16::MAX)
 }
 
 // The node that a VAR names.
@@ -363,10 +351,8 @@ pub fn arity(k: Kind) -> usize
 {
     match k {
         Kind::Op(o) => number::operands(o),
-        Kind::Fby(_) => 1,
-        Kind::Rec(_) => 1,
-        Kind::Let => 2,
-        Kind::Check => 2,
+        Kind::Fby(_) | Kind::Rec(_) => 1,
+        Kind::Let | Kind::Check => 2,
         Kind::Contract => 3,
         _ => 0,
     }
@@ -386,10 +372,9 @@ fn known(columns: u32, k: Kind, a: u32) -> bool
     ensures { result ≡ form.known columns k a }
 {
     match k {
-        Kind::Const(t) => holds(t, a),
+        Kind::Const(t) | Kind::Fby(t) => holds(t, a),
         Kind::Input => a < columns,
         Kind::Var => true,
-        Kind::Fby(t) => holds(t, a),
         Kind::Unknown => false,
         _ => a == 0,
     }
@@ -399,100 +384,66 @@ fn known(columns: u32, k: Kind, a: u32) -> bool
 fn bad_record(s: &[u8], i: Node) -> bool
     ensures { result ≡ form.bad_record s.now i.0 }
 {
-    let columns = byte(s, 3) as u32;
-    !known(columns, kind_at(s, i), argument(s, i))
+    !known(u32::from(byte(s, 3)), kind_at(s, i), argument(s, i))
 }
 
 // Rules 1 to 4.
 
-fn length_and_version(s: &[u8]) -> Judged
+fn length_and_version(s: &[u8]) -> Result<(), Refusal>
     ensures { told result ≡ form.length_version s.now }
 {
-    if s.len() < 4 {
-        return Judged::Refused(Refusal::Length);
-    }
-    if wide(byte(s, 0)) * 256 + wide(byte(s, 1)) != s.len() {
-        return Judged::Refused(Refusal::Length);
+    if s.len() < 4 || usize::from(byte(s, 0)) * 256 + usize::from(byte(s, 1)) != s.len() {
+        return Err(Refusal::Length);
     }
     if byte(s, 2) != 1 {
-        return Judged::Refused(Refusal::Version);
+        return Err(Refusal::Version);
     }
-    Judged::Passed
+    Ok(())
 }
 
-// The offset of the lowest type byte over 1.
-fn lowest_untyped(s: &[u8], columns: usize) -> usize
-    requires { columns < 256 }
-    ensures { result ≡ lowest (form.untyped s.now) 4 columns }
+// No type byte is over 1.
+fn type_bytes(s: &[u8]) -> Result<(), Refusal>
+    ensures { told result ≡ each 3 (form.untyped s.now) 4 (bytes.columns s.now) }
 {
-    let mut at = 4;
-    while at < 4 + columns {
+    for at in 4..4 + columns(s) {
         if 1 < byte(s, at) {
-            return at;
+            return Err(Refusal::Columns(at));
         }
-        at += 1;
     }
-    at
+    Ok(())
 }
 
-fn column_types(s: &[u8]) -> Judged
+fn column_types(s: &[u8]) -> Result<(), Refusal>
     ensures { told result ≡ form.column_types s.now }
 {
-    let columns = wide(byte(s, 3));
-    if Sheet::COLUMNS < columns {
-        return Judged::Refused(Refusal::Columns(3));
+    let columns = columns(s);
+    if Sheet::COLUMNS < columns || s.len() < 4 + columns {
+        return Err(Refusal::Columns(3));
     }
-    if s.len() < 4 + columns {
-        return Judged::Refused(Refusal::Columns(3));
-    }
-    let at = lowest_untyped(s, columns);
-    if at < 4 + columns {
-        return Judged::Refused(Refusal::Columns(at));
-    }
-    Judged::Passed
+    type_bytes(s)
 }
 
-fn body(s: &[u8]) -> Judged
+fn body(s: &[u8]) -> Result<(), Refusal>
     ensures { told result ≡ form.body s.now }
 {
     let n = nodes(s);
-    if n < 1 {
-        return Judged::Refused(Refusal::Body);
+    if n < 1 || Sheet::NODES < n || 4 + columns(s) + 6 * n != s.len() {
+        return Err(Refusal::Body);
     }
-    if Sheet::NODES < n {
-        return Judged::Refused(Refusal::Body);
-    }
-    if 4 + wide(byte(s, 3)) + 6 * n != s.len() {
-        return Judged::Refused(Refusal::Body);
-    }
-    Judged::Passed
+    Ok(())
 }
 
 // Rule 5.
-
-fn lowest_bad_record(s: &[u8], n: u16) -> Node
-    ensures { result.0 ≡ lowest (form.bad_record s.now) 0 n }
-{
-    let mut i: u16 = 0;
-    while i < n {
-        if bad_record(s, Node(i)) {
-            return Node(i);
-        }
-        i += 1;
-    }
-    Node(n)
-}
-
-fn records(s: &[u8]) -> Judged
+fn records(s: &[u8]) -> Result<(), Refusal>
     requires { bytes.nodes s.now ≤ max_nodes }
     ensures { told result ≡ form.records s.now }
 {
-    let n = nodes(s) as u16;
-    let at = lowest_bad_record(s, n);
-    if at.0 < n {
-        return Judged::Refused(Refusal::Record(at));
+    for i in 0..nodes(s) as u16 {
+        if bad_record(s, Node(i)) {
+            return Err(Refusal::Record(Node(i)));
+        }
     }
-    Judged::Passed
+    Ok(())
 }
 
 // Rule 6.
@@ -507,66 +458,40 @@ fn expression(s: &[u8], n: u16, at: u16) -> u16
         return n + 1;
     }
     let mut next = at + 1;
-    let mut left = arity(kind_at(s, Node(at)));
-    while 0 < left {
+    for _ in 0..arity(kind_at(s, Node(at))) {
         next = expression(s, n, next);
-        left -= 1;
     }
     next
 }
 
-fn shape(s: &[u8]) -> Judged
+fn shape(s: &[u8]) -> Result<(), Refusal>
     requires { bytes.nodes s.now ≤ max_nodes }
     ensures { told result ≡ form.shape s.now }
 {
     let n = nodes(s) as u16;
     let k = expression(s, n, 0);
     if k < n {
-        return Judged::Refused(Refusal::Shape(Node(k)));
+        return Err(Refusal::Shape(Node(k)));
     }
     if n < k {
-        return Judged::Refused(Refusal::Shape(Node(n)));
+        return Err(Refusal::Shape(Node(n)));
     }
-    Judged::Passed
+    Ok(())
 }
 
 // Rules 1 to 6.
-pub fn form(s: &[u8]) -> Judged
+#[tactic(auto, using(crate::proofs::RulingLaws::then_refused, crate::proofs::RulingLaws::then_next, crate::proofs::FormLaws::body_few), unfolding(crate::specs::Form::form))]
+pub fn form(s: &[u8]) -> Result<(), Refusal>
     ensures { told result ≡ form.form s.now }
 {
-    if let Judged::Refused(r) = length_and_version(s) {
-        return Judged::Refused(r);
-    }
-    if let Judged::Refused(r) = column_types(s) {
-        return Judged::Refused(r);
-    }
-    if let Judged::Refused(r) = body(s) {
-        return Judged::Refused(r);
-    }
-    if let Judged::Refused(r) = records(s) {
-        return Judged::Refused(r);
-    }
+    length_and_version(s)?;
+    column_types(s)?;
+    body(s)?;
+    records(s)?;
     shape(s)
 }
 
 // Where each expression ends.
-
-// One end read, 0 past the table, and one written. Both take a slice: of a slice the proof knows the length.
-
-fn end_at(ends: &[u16], i: u16) -> u16
-    ensures { result ≡ get_or ends.now i 0 }
-{
-    let at = i as usize;
-    if at < ends.len() { ends[at] } else { 0 }
-}
-
-fn put_end(ends: &mut [u16], i: u16, end: u16)
-    requires { i < length ends.old }
-    ensures { ends.new ≡ set ends.old i end }
-{
-    let at = i as usize;
-    ends[at] = end;
-}
 
 // Operand k of a node, k from 0, by the table of ends.
 pub fn operand(ends: &[u16; Sheet::NODES], i: Node, k: usize) -> Node
@@ -576,10 +501,8 @@ pub fn operand(ends: &[u16; Sheet::NODES], i: Node, k: usize) -> Node
         return Node(0);
     }
     let mut at = i.0 + 1;
-    let mut left = k;
-    while 0 < left {
-        at = end_at(ends, at);
-        left -= 1;
+    for _ in 0..k {
+        at = ends.get(usize::from(at)).copied().unwrap_or(0);
     }
     Node(at)
 }
@@ -588,13 +511,12 @@ pub fn operand(ends: &[u16; Sheet::NODES], i: Node, k: usize) -> Node
 pub fn fill_ends(s: &[u8], ends: &mut [u16; Sheet::NODES])
     ensures { form.Formed s.now → bytes.Ends s.now ends.new }
 {
-    if Sheet::NODES < nodes(s) {
+    let n = nodes(s);
+    if Sheet::NODES < n {
         return;
     }
-    let mut i = nodes(s) as u16;
-    while 0 < i {
-        i -= 1;
-        let past = operand(&*ends, Node(i), arity(kind_at(s, Node(i))));
-        put_end(ends, i, past.0);
+    for at in (0..n).rev() {
+        let i = Node(at as u16);
+        ends[at] = operand(&*ends, i, arity(kind_at(s, i))).0;
     }
 }

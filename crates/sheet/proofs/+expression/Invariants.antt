@@ -1,5 +1,5 @@
--- The records left fall, so reading ends; the operands left lead on to where the expression ends.
-use Rattle.std.proofs.Common.{◌≡◌, ◌-◌, ◌<◌}
+-- The records left fall, so reading ends; the operands read lead to where the next one starts.
+use Rattle.std.proofs.Common.{◌≡◌, ◌+◌, ◌-◌, ◌<◌}
 use Rattle.sheet.specs.Prefix.{times, end}
 use Rattle.sheet.specs.Bytes.{arity_at}
 use Rattle.sheet.proofs.+expression.Given as goal
@@ -8,9 +8,5 @@ use Rattle.sheet.proofs.+expression.Given as goal
 abbrev pub decreases-expression : goal.decreases-expression
 decreases-expression l = l.n - l.at
 
-abbrev pub invariant-loop-left : goal.invariant-loop-left
-invariant-loop-left l =
-    (l.at < l.next) × (end (arity_at l.s) l.n l.at ≡ times l.left (end (arity_at l.s) l.n) l.next)
-
-abbrev pub decreases-loop-left : goal.decreases-loop-left
-decreases-loop-left l = l.left
+abbrev pub invariant-loop : goal.invariant-loop
+invariant-loop l = (l.at < l.next) × (l.next ≡ times l.counter (end (arity_at l.s) l.n) (l.at + 1))

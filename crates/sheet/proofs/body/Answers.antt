@@ -1,23 +1,22 @@
 -- Each test of the code is a part of "the rest is 6 times 1 to 512".
-use Rattle.std.proofs.Common.{◌≡◌, ℕ, List, true, arith}
+use Rattle.std.proofs.Common.{arith}
 use Rattle.finite.proofs.Tests.{fails}
-use Rattle.sheet.specs.Ruling.{refused, rule}
+use Rattle.sheet.specs.Ruling.{rule}
 use Rattle.sheet.specs.Form.{whole_body, body}
 use Rattle.sheet.proofs.FormLaws.{body-whole}
 use Rattle.sheet.proofs.body.Goals as goal
-
-broken : (s : List ℕ) → (whole_body s ≡ true → ⊥) → refused 4 0 ≡ body s
-unfolding body rule
-broken s no_whole = rw (fails (whole_body s) no_whole)
+use Rattle.sheet.proofs.body.Goals.{then-n-lt1-via-then-n-lt1, then-n-lt1-via-else-n-lt1+then-n-gt-NODES, then-n-lt1-via-else-n-lt1+else-n-gt-NODES+then-columns-n}
 
 pub returns-then-n-lt1 : goal.returns-then-n-lt1
-returns-then-n-lt1 c = broken _ (λ t. omega (arith, (body-whole _).0 t))
-
-pub returns-then-n-gt-NODES : goal.returns-then-n-gt-NODES
-returns-then-n-gt-NODES c = broken _ (λ t. omega (arith, (body-whole _).0 t))
-
-pub returns-then-wide-n : goal.returns-then-wide-n
-returns-then-wide-n c = broken _ (λ t. c.if-wide-n.true (omega (arith, (body-whole _).0 t)))
+unfolding body rule
+returns-then-n-lt1 c =
+    rw (fails (whole_body c.args.s.now) (λ t.
+    let whole = (body-whole _).0 t in
+    elim c.then-n-lt1.branch [
+      | then-n-lt1-via-then-n-lt1 w ↦ omega arith
+      | then-n-lt1-via-else-n-lt1+then-n-gt-NODES w ↦ omega arith
+      | then-n-lt1-via-else-n-lt1+else-n-gt-NODES+then-columns-n w ↦ w.if-columns-n.true (omega arith)
+    ]))
 
 pub returns : goal.returns
 unfolding body rule

@@ -1,26 +1,22 @@
--- From the last node down: where the form is right, the table has the ends of the nodes from i on.
+-- From the last node down: where the form is right, the table has the ends of the nodes from `at` on.
 use Rattle.std.proofs.Common.{◌≡◌, ℕ, ◌-◌, ◌<◌, get_or, ◌∙◌, arith}
 use Rattle.finite.proofs.ListLaws.{stored}
 use Rattle.sheet.specs.Bytes.{nodes, end_of}
 use Rattle.sheet.proofs.SheetLaws.{end_by_table}
 use Rattle.sheet.proofs.fill_ends.Goals as goal
 
-pub loop-i-init : goal.loop-i-init
-loop-i-init c = (omega arith, λ f j h h'. absurd (omega arith))
+pub loop-at-init : goal.loop-at-init
+loop-at-init c f j h h' = absurd (omega arith)
 
-pub loop-i-preserved : goal.loop-i-preserved
-loop-i-preserved c =
-    let i = c.loop-i.i - 1 in
-    let s = c.args.s.now in (
-      omega arith,
-      λ f j h h'.
-          let later : (k : ℕ) → i < k → k < nodes s → get_or c.loop-i.ends k 0 ≡ end_of s k = λ k b. c.loop-i.invariant.1 f k (omega arith) in
-          rw c.put_end.ensures
-          (stored (end_of s) 0 c.loop-i.ends i _ (omega arith)
-          (c.operand-past.ensures (omega arith) ∙ rw (c.arity.ensures, c.kind_at.ensures) (end_by_table f c.loop-i.ends i (omega arith) later))
-          j
-          (λ q. later j (omega arith) h')),
-    )
+pub loop-at-preserved : goal.loop-at-preserved
+loop-at-preserved c f j h h' =
+    let i = c.loop-at.at - 1 in
+    let s = c.args.s.now in
+    let later : (k : ℕ) → i < k → k < nodes s → get_or c.loop-at.ends k 0 ≡ end_of s k = λ k b. c.loop-at.invariant f k (omega arith) in
+    stored (end_of s) 0 c.loop-at.ends i _ (omega arith)
+    (c.operand.ensures (omega arith) ∙ rw (c.arity.ensures, c.kind_at.ensures) (end_by_table f c.loop-at.ends i (omega arith) later))
+    j
+    (λ q. later j (omega arith) h')
 
 pub returns : goal.returns
-returns c f j h = c.loop-i.invariant.1 f j (omega arith) h
+returns c f j h = c.loop-at.invariant f j (omega arith) h

@@ -1,15 +1,18 @@
--- What is left of the walk leads on to where the whole walk leads.
-use Rattle.std.proofs.Common.{refl, sym, ◌∙◌, arith}
+-- The walk so far.
+use Rattle.std.proofs.Common.{◌≡◌, get_or, sym, arith, add-one}
+use Rattle.std.proofs.lemmas.Grind.{common_steps}
 use Rattle.sheet.specs.Bytes.{operand_by}
-use Rattle.sheet.proofs.PrefixLaws.{times_none, times_more}
+use Rattle.sheet.proofs.PrefixLaws.{times_none, times_last}
 use Rattle.sheet.proofs.operand.Goals as goal
 
-pub loop-left-init : goal.loop-left-init
-loop-left-init c = refl
+pub loop-init : goal.loop-init
+loop-init c = sym (times_none _ 0 _ (omega arith))
 
-pub loop-left-preserved : goal.loop-left-preserved
-loop-left-preserved c = c.loop-left.invariant ∙ times_more _ _ _ (omega arith) ∙ rw c.end_at-at.ensures refl
+pub loop-preserved : goal.loop-preserved
+loop-preserved c =
+    let next : c.unwrap_or-at.result ≡ get_or c.args.ends.now c.loop.at 0 = grind (arith, common_steps) in
+    rw (add-one c.loop.counter, times_last, ← c.loop.invariant) next
 
 pub returns : goal.returns
 unfolding operand_by
-returns c h = sym (c.loop-left.invariant ∙ times_none _ _ _ (omega arith))
+returns c h = let e : c.loop.counter ≡ c.args.k = omega arith in rw (← e) c.loop.invariant

@@ -1,15 +1,14 @@
--- The lowest bad record is the rule's place.
-use Rattle.std.proofs.Common.{◌+◌, arith, lt-ltb, le-ltb}
-use Rattle.sheet.specs.Ruling.{rule, each}
+-- The first bad record is the place.
+use Rattle.std.proofs.Common.{sym, ◌∙◌, arith}
 use Rattle.sheet.specs.Form.{records}
+use Rattle.sheet.proofs.RulingLaws.{each-passed, each_refused}
 use Rattle.sheet.proofs.records.Goals as goal
 
-pub returns-then-at-n : goal.returns-then-at-n
-unfolding records rule each
-returns-then-at-n c =
-    simp (← c.nodes-n.ensures, ← c.lowest_bad_record-at.ensures, lt-ltb c.lowest_bad_record-at.result.0 (0 + c.nodes-n.result) (omega arith))
+pub returns-then-bad_record : goal.returns-then-bad_record
+unfolding records
+returns-then-bad_record c =
+    each_refused _ _ _ _ _ (omega arith) (omega arith) (sym c.bad_record.ensures ∙ c.if-bad_record.true) c.loop-i.invariant
 
 pub returns : goal.returns
-unfolding records rule each
-returns c =
-    simp (← c.nodes-n.ensures, ← c.lowest_bad_record-at.ensures, le-ltb c.lowest_bad_record-at.result.0 (0 + c.nodes-n.result) (omega arith))
+unfolding records
+returns c = sym ((each-passed _ _ _ _).1 (λ i l u. c.loop-i.invariant i l (omega arith)))
