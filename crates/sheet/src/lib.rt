@@ -3,7 +3,7 @@
 
 ghost use Rattle.std.specs.Prelude.{◌≡◌, ◌∷◌, [], ◌<◌, ◌≤◌, length, get_or, set};
 ghost use Rattle.sheet.specs.Ceilings.{ceilings, max_nodes};
-ghost use Rattle.sheet.specs.Ruling.{each, told, number_of, place_of, lent_place};
+ghost use Rattle.sheet.specs.Ruling.{each, told, number_of, place_of};
 ghost use Rattle.sheet.specs.Prefix.{end};
 ghost use Rattle.sheet.specs.Bytes as bytes;
 ghost use Rattle.sheet.specs.Form as form;
@@ -76,7 +76,8 @@ impl Sheet {
     }
 }
 
-// A record's kind with its code; Unknown where the table of kinds has no such kind, code or operator.
+// A record's kind with its code; Unknown where the table of kinds has no such kind, code or operator. It is a kind and no None, since the
+// definitions give every record's bytes a kind (arity, needs, value, ..), and every theorem goes by them.
 #[derive(Clone, Copy)]
 pub enum Kind {
     Const(ValueType),
@@ -91,15 +92,15 @@ pub enum Kind {
     Unknown,
 }
 
-// A lent slice of a wrong length.
+// A lent slice of a wrong length, by its place.
 #[derive(Clone, Copy, Debug, PartialEq, Eq)]
 pub enum Lent {
-    Rows,
-    Cells,
-    Order,
-    Values,
-    Outputs,
-    Room,
+    Rows = 1,
+    Cells = 2,
+    Order = 3,
+    Values = 4,
+    Outputs = 5,
+    Room = 7,
 }
 
 // A refusal: the rule, with its place where it has several.
@@ -153,36 +154,20 @@ impl Refusal {
         ensures { result ≡ place_of self }
     {
         match self {
-            Refusal::Length => 0,
+            Refusal::Length | Refusal::Body | Refusal::Text => 0,
             Refusal::Version => 2,
-            Refusal::Columns(at) => at,
-            Refusal::Body => 0,
-            Refusal::Record(i) => index(i),
-            Refusal::Shape(i) => index(i),
-            Refusal::Depth(i) => index(i),
-            Refusal::Scope(i) => index(i),
-            Refusal::Types(i) => index(i),
-            Refusal::Unguarded(i) => index(i),
-            Refusal::Slots(i) => index(i),
-            Refusal::Lent(slice) => lent_place(slice),
-            Refusal::Row(at) => at,
-            Refusal::Cell(j) => j.0 as usize,
-            Refusal::Order(p) => p.0 as usize,
-            Refusal::Text => 0,
+            Refusal::Columns(at) | Refusal::Row(at) => at,
+            Refusal::Record(i)
+            | Refusal::Shape(i)
+            | Refusal::Depth(i)
+            | Refusal::Scope(i)
+            | Refusal::Types(i)
+            | Refusal::Unguarded(i)
+            | Refusal::Slots(i) => index(i),
+            Refusal::Lent(slice) => slice as usize,
+            Refusal::Cell(j) => usize::from(j.0),
+            Refusal::Order(p) => usize::from(p.0),
         }
-    }
-}
-
-fn lent_place(slice: Lent) -> usize
-    ensures { result ≡ lent_place slice }
-{
-    match slice {
-        Lent::Rows => 1,
-        Lent::Cells => 2,
-        Lent::Order => 3,
-        Lent::Values => 4,
-        Lent::Outputs => 5,
-        Lent::Room => 7,
     }
 }
 
@@ -190,7 +175,15 @@ fn lent_place(slice: Lent) -> usize
 pub fn index(i: Node) -> usize
     ensures { result ≡ i.0 }
 {
-    i.0 as usize
+    usize::from(i.0)
+}
+
+impl From<Node> for usize {
+    ghost from_gives = { λ i n. n ≡ i.0 };
+
+    fn from(i: Node) -> usize {
+        usize::from(i.0)
+    }
 }
 
 // The bytes.
@@ -224,21 +217,15 @@ fn start(s: &[u8], i: Node) -> usize
 
 // The table of kinds.
 
-fn type_of(b: u8) -> ValueType
-    ensures { result ≡ bytes.type_of b }
-{
-    if b == 0 {
-        ValueType::Bool
-    } else {
-        ValueType::Int
-    }
-}
-
 #[tactic(auto, unfolding(crate::specs::Bytes::column_type))]
 pub fn column_type(s: &[u8], c: Column) -> ValueType
     ensures { result ≡ bytes.column_type s.now c.0 }
 {
-    type_of(byte(s, 4 + c.0 as usize))
+    if byte(s, 4 + usize::from(c.0)) == 0 {
+        ValueType::Bool
+    } else {
+        ValueType::Int
+    }
 }
 
 fn operated(code: u8) -> Kind
@@ -263,42 +250,23 @@ fn operated(code: u8) -> Kind
     }
 }
 
-// A kind whose code is a type, by the kind with a bool and with an int; and one whose code is marked -.
-
-fn typed(code: u8, with_bool: Kind, with_int: Kind) -> Kind
-    ensures { result ≡ get_or (with_bool ∷ with_int ∷ []) code Kind.Unknown }
-{
-    match code {
-        0 => with_bool,
-        1 => with_int,
-        _ => Kind::Unknown,
-    }
-}
-
-fn plain(code: u8, kind: Kind) -> Kind
-    ensures { result ≡ bytes.plain kind code }
-{
-    if code == 0 { kind } else { Kind::Unknown }
-}
-
 #[tactic(auto, unfolding(crate::specs::Bytes::kind_of))]
 pub fn kind_of(kind: u8, code: u8) -> Kind
     ensures { result ≡ bytes.kind_of kind code }
 {
-    match kind {
-        0 => typed(
-            code,
-            Kind::Const(ValueType::Bool),
-            Kind::Const(ValueType::Int),
-        ),
-        1 => plain(code, Kind::Input),
-        2 => plain(code, Kind::Var),
-        3 => operated(code),
-        4 => typed(code, Kind::Fby(ValueType::Bool), Kind::Fby(ValueType::Int)),
-        5 => typed(code, Kind::Rec(ValueType::Bool), Kind::Rec(ValueType::Int)),
-        6 => plain(code, Kind::Let),
-        7 => plain(code, Kind::Check),
-        8 => plain(code, Kind::Contract),
+    match (kind, code) {
+        (0, 0) => Kind::Const(ValueType::Bool),
+        (0, 1) => Kind::Const(ValueType::Int),
+        (1, 0) => Kind::Input,
+        (2, 0) => Kind::Var,
+        (3, _) => operated(code),
+        (4, 0) => Kind::Fby(ValueType::Bool),
+        (4, 1) => Kind::Fby(ValueType::Int),
+        (5, 0) => Kind::Rec(ValueType::Bool),
+        (5, 1) => Kind::Rec(ValueType::Int),
+        (6, 0) => Kind::Let,
+        (7, 0) => Kind::Check,
+        (8, 0) => Kind::Contract,
         _ => Kind::Unknown,
     }
 }

@@ -11,7 +11,7 @@ returns-then-columns-gt-COLUMNS c =
     elim c.then-columns-gt-COLUMNS.branch [
       | then-columns-gt-COLUMNS-via-then-columns-gt-COLUMNS w ↦ simp (← c.columns-columns.ensures.0, lt-ltb _ _ w.if-columns-gt-COLUMNS.true)
       | then-columns-gt-COLUMNS-via-else-columns-gt-COLUMNS+then-s-columns w ↦
-        simp (← c.columns-columns.ensures.0, le-ltb _ _ w.if-columns-gt-COLUMNS.false, lt-ltb _ _ w.if-s-columns.true)
+          simp (← c.columns-columns.ensures.0, le-ltb _ _ w.if-columns-gt-COLUMNS.false, lt-ltb _ _ w.if-s-columns.true)
     ]
 
 pub returns : goal.returns
