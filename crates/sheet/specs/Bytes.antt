@@ -1,8 +1,7 @@
 -- Document 01, "Sheet bytes". Bytes past the end read 0, so that every sentence has a meaning for any bytes.
-use Rattle.std.specs.Prelude.{ℕ, ◌+◌, ◌-◌, ◌*◌, ◌/◌, ◌<◌, ◌≡◌, Bool, true, false, ◌&&◌, List, [], ◌∷◌, length, get_or, ltb, leb}
+use Rattle.std.specs.Prelude.{ℕ, ◌+◌, ◌-◌, ◌*◌, ◌/◌, ◌<◌, ◌≡◌, Bool, true, false, ◌&&◌, List, [], ◌∷◌, map, length, get_or, ltb, leb}
 use Rattle.number.specs.Word.{word}
-use Rattle.number.specs.Operators.{operands}
-use Rattle.number.specs.declared.Operator.TheVariants.{Not, And, Or, Xor, If, Eq, Lt, Le, Add, Sub, Mul, Div, Neg, Mod}
+use Rattle.number.specs.Operators.{operands, operators}
 use Rattle.sheet.specs.Prefix.{times, end}
 use Rattle.sheet.specs.declared.ValueType.{ValueType}
 use Rattle.sheet.specs.declared.ValueType.TheVariants.{Bool as bool, Int as int}
@@ -43,8 +42,7 @@ abbrev pub typed : (ValueType → Kind) → ℕ → Kind
 typed kind code = get_or (kind bool ∷ kind int ∷ []) code Unknown
 
 abbrev pub operated : ℕ → Kind
-operated code =
-    get_or (Op Not ∷ Op And ∷ Op Or ∷ Op Xor ∷ Op If ∷ Op Eq ∷ Op Lt ∷ Op Le ∷ Op Add ∷ Op Sub ∷ Op Mul ∷ Op Div ∷ Op Neg ∷ Op Mod ∷ []) code Unknown
+operated code = get_or (map Op operators) code Unknown
 
 abbrev pub plain : Kind → ℕ → Kind
 plain kind code = get_or (kind ∷ []) code Unknown

@@ -228,28 +228,6 @@ pub fn column_type(s: &[u8], c: Column) -> ValueType
     }
 }
 
-fn operated(code: u8) -> Kind
-    ensures { result ≡ bytes.operated code }
-{
-    match code {
-        0 => Kind::Op(Operator::Not),
-        1 => Kind::Op(Operator::And),
-        2 => Kind::Op(Operator::Or),
-        3 => Kind::Op(Operator::Xor),
-        4 => Kind::Op(Operator::If),
-        5 => Kind::Op(Operator::Eq),
-        6 => Kind::Op(Operator::Lt),
-        7 => Kind::Op(Operator::Le),
-        8 => Kind::Op(Operator::Add),
-        9 => Kind::Op(Operator::Sub),
-        10 => Kind::Op(Operator::Mul),
-        11 => Kind::Op(Operator::Div),
-        12 => Kind::Op(Operator::Neg),
-        13 => Kind::Op(Operator::Mod),
-        _ => Kind::Unknown,
-    }
-}
-
 #[tactic(auto, unfolding(crate::specs::Bytes::kind_of))]
 pub fn kind_of(kind: u8, code: u8) -> Kind
     ensures { result ≡ bytes.kind_of kind code }
@@ -259,7 +237,7 @@ pub fn kind_of(kind: u8, code: u8) -> Kind
         (0, 1) => Kind::Const(ValueType::Int),
         (1, 0) => Kind::Input,
         (2, 0) => Kind::Var,
-        (3, _) => operated(code),
+        (3, _) => Operator::try_from(code).map_or(Kind::Unknown, Kind::Op),
         (4, 0) => Kind::Fby(ValueType::Bool),
         (4, 1) => Kind::Fby(ValueType::Int),
         (5, 0) => Kind::Rec(ValueType::Bool),
