@@ -5,25 +5,25 @@ use mathlib.Core.Logic.{◌↔◌}
 use mathlib.Core.Bool.{Bool, true, false, not, ◌&&◌}
 use mathlib.Core.List.{List}
 use native.Mathlib.Omega.{arith}
+use Rattle.std.proofs.Common.{Result}
 use lib.Dec.{leb}
 use borrow.Author.Tests.{ltb-false, le-ltb, leb-false, lt-leb, not-false}
 use Rattle.finite.specs.Count.{count}
 use Rattle.finite.proofs.Tests.{by-test, and_l, and_r, and_both, and_cases, and_not_l}
 use Rattle.finite.proofs.CountLaws.{count_yes, count_no, count_lt}
 use Rattle.sheet.specs.Ceilings.{max_depth, max_slots}
-use Rattle.sheet.specs.Ruling.{passed, refused, accepted, turned}
+use Rattle.sheet.specs.Ruling.{passed, refused, accepted, turned, said}
 use Rattle.sheet.specs.Bytes.{nodes, kind_at, argument, is_var}
 use Rattle.sheet.specs.declared.Sheet.{Sheet}
-use Rattle.sheet.proofs.RulingLaws.{each-passed, then_passed, answer-accepted, answer-turned, one_refusal}
+use Rattle.sheet.specs.declared.Refusal.{Refusal}
+use Rattle.sheet.proofs.RulingLaws.{each-passed, then_passed, answer-accepted, answer-turned, one_said}
 use Rattle.sheet.proofs.FormLaws.{form_iff}
 use Rattle.rules.specs.Scope.{depth, scoped, is_rec, guarded, fby_at}
 use Rattle.rules.specs.Types.{mistyped}
 use Rattle.rules.specs.Slots.{slot, slots}
-use Rattle.rules.specs.Check.{breaks, Scoped, rule_number, ruled, tree_rules, rules, sheet, check, said, Sound}
+use Rattle.rules.specs.Check.{breaks, Scoped, rule_number, ruled, tree_rules, rules, sheet, check, Sound}
 use Rattle.rules.specs.declared.Rule.{Rule}
 use Rattle.rules.specs.declared.Rule.TheVariants.{Depth, Scope, Types, Unguarded, Slots}
-use Rattle.rules.specs.declared.Checked.{Checked}
-use Rattle.rules.specs.declared.Checked.TheVariants.{Accepted, Refused}
 use Rattle.rules.proofs.GuardLaws.{scoped-is, guarded-is}
 
 -- a rule "a only where b", which is broken where a passes and b fails
@@ -115,11 +115,8 @@ module _ (s : List ℕ) where
       (λ a. (sound (e.0 a).0, (e.0 a).1), λ k. e.1 (passing k.0, k.1))
 
 -- what Check's answer says tells the answer
-pub one_checked : (a b : Checked) → said a ≡ said b → a ≡ b
-one_checked (Accepted y) (Accepted z) e = ap Accepted (cc)
-one_checked (Accepted y) (Refused b) e = let z : ◌≡◌ {A = ℕ} 0 1 = cc in absurd (omega arith)
-one_checked (Refused a) (Accepted z) e = let z : ◌≡◌ {A = ℕ} 0 1 = cc in absurd (omega arith)
-one_checked (Refused a) (Refused b) e = ap Refused (one_refusal a b (cc) (cc))
+pub one_checked : (a b : Result Sheet Refusal) → said a ≡ said b → a ≡ b
+one_checked = one_said
 
 -- a refusal of Check is that of rules 1 to 11
 pub check-turned : (s : List ℕ) (number place : ℕ) → turned number place ≡ check s → rules s ≡ refused number place

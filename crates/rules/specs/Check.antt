@@ -1,17 +1,15 @@
 -- Rules 7 to 11 of document 01's table, each a test on nodes, and what Check answers.
-use Rattle.std.specs.Prelude.{ℕ, ◌<◌, ◌≤◌, ◌≡◌, Bool, true, false, not, ◌&&◌, List, ltb, leb}
+use Rattle.std.specs.Prelude.{ℕ, ◌<◌, ◌≤◌, ◌≡◌, Bool, true, not, ◌&&◌, List, ltb, leb}
 use Rattle.sheet.specs.Ceilings.{max_depth, max_slots}
-use Rattle.sheet.specs.Ruling.{Ruling, each, ◌then◌, Outcome, accepted, turned, answer, number_of, place_of}
+use Rattle.sheet.specs.Ruling.{Ruling, each, ◌then◌, Outcome, answer}
 use Rattle.sheet.specs.Bytes.{nodes, columns, kind_at, argument, is_var, operand, Ends}
 use Rattle.sheet.specs.Form.{form, Formed}
 use Rattle.sheet.specs.declared.Sheet.{Sheet}
-use Rattle.rules.specs.Scope.{depth, binds, scoped, is_rec, guarded, Guarded, fby_at, Overs}
-use Rattle.rules.specs.Types.{type_at, well_typed, mistyped, Typed}
+use Rattle.rules.specs.Scope.{depth, binds, scoped, is_rec, guarded, Guarded, fby_at}
+use Rattle.rules.specs.Types.{type_at, well_typed, mistyped}
 use Rattle.rules.specs.Slots.{slot, slots, Slotted}
 use Rattle.rules.specs.declared.Rule.{Rule}
 use Rattle.rules.specs.declared.Rule.TheVariants.{Depth, Scope, Types, Unguarded, Slots}
-use Rattle.rules.specs.declared.Checked.{Checked}
-use Rattle.rules.specs.declared.Checked.TheVariants.{Accepted, Refused}
 
 -- node i breaks a rule
 unfoldable pub breaks : List ℕ → Rule → ℕ → Bool
@@ -37,14 +35,6 @@ rule_number Slots = 11
 abbrev pub ruled : List ℕ → Rule → Ruling
 ruled s r = each (rule_number r) (breaks s r) 0 (nodes s)
 
--- what the test of a rule goes by: a table of its own, and for the guard that rule 8 holds
-abbrev pub Ready : List ℕ → Rule → List ℕ → Type 0
-Ready s Depth table = Overs s false table
-Ready s Scope table = Unit {0}
-Ready s Types table = Typed s table
-Ready s Unguarded table = Scoped s × Overs s true table
-Ready s Slots table = Slotted s table
-
 -- rules 7 to 10, in this order
 unfoldable pub tree_rules : List ℕ → Ruling
 tree_rules s = ruled s Depth then ruled s Scope then ruled s Types then ruled s Unguarded
@@ -59,11 +49,6 @@ sheet s = record { nodes = nodes s; columns = columns s; slots = slots s; root =
 
 unfoldable pub check : List ℕ → Outcome Sheet
 check s = answer (rules s) (sheet s)
-
--- what Check's answer says, in document 01's numbers
-abbrev pub said : Checked → Outcome Sheet
-said (Accepted z) = accepted z
-said (Refused r) = turned (number_of r) (place_of r)
 
 -- what the tables hold after a sheet was accepted
 pub record Tables (s endTable slotTable : List ℕ) : Type 0 where

@@ -2,7 +2,7 @@
 use Rattle.std.specs.Prelude.{ℕ, zero, suc, ◌+◌, ◌*◌, ◌<◌, ◌≤◌, ◌≡◌, Bool, true, false, not, ◌&&◌, List, length, get_or}
 use Rattle.number.specs.declared.Operator.{Operator}
 use Rattle.number.specs.declared.Operator.TheVariants.{Not, And, Or, Xor, If, Eq, Lt, Le, Add, Sub, Mul, Div, Neg, Mod}
-use Rattle.sheet.specs.Bytes.{type_of, nodes, kind_at, argument, column_type, operand, end_of}
+use Rattle.sheet.specs.Bytes.{nodes, kind_at, argument, column_type, operand, end_of}
 use Rattle.sheet.specs.declared.ValueType.{ValueType}
 use Rattle.sheet.specs.declared.ValueType.TheVariants.{Bool as bool, Int as int}
 use Rattle.sheet.specs.declared.Kind.{Kind}
@@ -108,23 +108,19 @@ well_typed Unknown a b c = true
 unfoldable pub mistyped : List ℕ → ℕ → Bool
 mistyped s i = not (well_typed (kind_at s i) (type_at s (operand s i 0)) (type_at s (operand s i 1)) (type_at s (operand s i 2)))
 
--- a type as a number of a table, and a table that has the type of each node
-abbrev pub type_code : ValueType → ℕ
-type_code bool = 0
-type_code int = 1
+-- a table that has the type of each node
+abbrev pub type_in : List ValueType → ℕ → ValueType
+type_in table i = get_or table i bool
 
-abbrev pub type_in : List ℕ → ℕ → ValueType
-type_in table i = type_of (get_or table i 0)
-
-abbrev pub Typed : List ℕ → List ℕ → Type 0
+abbrev pub Typed : List ℕ → List ValueType → Type 0
 Typed s table = (i : ℕ) → i < nodes s → type_in table i ≡ type_at s i
 
 -- the table has the type of each node whose expression ends before node i
-abbrev pub SettledBefore : List ℕ → ℕ → List ℕ → Type 0
+abbrev pub SettledBefore : List ℕ → ℕ → List ValueType → Type 0
 SettledBefore s i table = (j : ℕ) → j < i → end_of s j ≤ i → type_in table j ≡ type_at s j
 
 -- of the two tables the second has the types of the nodes from .. to - 1, and the nodes before are as in the first
-pub record Settled (s : List ℕ) (from to : ℕ) (old new : List ℕ) : Type 0 where
+pub record Settled (s : List ℕ) (from to : ℕ) (old new : List ValueType) : Type 0 where
   pub size : length new ≡ length old
   pub inside : (j : ℕ) → from ≤ j → j < to → type_in new j ≡ type_at s j
-  pub before : (j : ℕ) → j < from → get_or new j 0 ≡ get_or old j 0
+  pub before : (j : ℕ) → j < from → type_in new j ≡ type_in old j

@@ -1,13 +1,9 @@
 -- So many FBYs came before each node passed.
-use Rattle.std.proofs.Common.{◌≡◌, ℕ, ◌-◌, ◌<◌, ◌≤◌, get_or}
+use Rattle.std.proofs.Common.{◌≡◌, ℕ, ◌<◌, get_or}
 use Rattle.finite.specs.Count.{count}
-use Rattle.sheet.specs.Bytes.{nodes}
 use Rattle.rules.specs.Scope.{fby_at}
 use Rattle.rules.proofs.fill_slots.Given as goal
 
 abbrev pub invariant-loop-i : goal.invariant-loop-i
 invariant-loop-i l =
-    (l.n ≡ nodes l.s) × (l.i ≤ l.n) × (l.slot ≡ count (fby_at l.s) l.i) × (l.slot ≤ l.i) × ((j : ℕ) → j < l.i → get_or l.table j 0 ≡ count (fby_at l.s) j)
-
-abbrev pub decreases-loop-i : goal.decreases-loop-i
-decreases-loop-i l = l.n - l.i
+    (l.slot ≡ count (fby_at l.s) l.i) × ((j : ℕ) → j < l.i → get_or l.table j 0 ≡ count (fby_at l.s) j)

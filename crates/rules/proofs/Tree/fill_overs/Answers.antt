@@ -8,8 +8,8 @@ use Rattle.sheet.proofs.SheetLaws.{operand_later, parent, one_parent}
 use Rattle.rules.specs.Scope.{over as over_of, counted, HandedDown}
 use Rattle.rules.proofs.GuardLaws.{over_first, over_most, over_handed}
 use Rattle.rules.proofs.FunctionLaws.{Reached}
-use Rattle.rules.proofs.fill_overs.Goals as goal
-use Rattle.rules.proofs.fill_overs.Goals.{then-counted, else-counted}
+use Rattle.rules.proofs.Tree.fill_overs.Goals as goal
+use Rattle.rules.proofs.Tree.fill_overs.Goals.{then-counted, else-counted}
 
 module _ {s : List ℕ} (f : Formed s) (p : ℕ → Bool) where
   -- where the nodes before i are passed, the table is right at every node up to i
@@ -30,29 +30,27 @@ module _ {s : List ℕ} (f : Formed s) (p : ℕ → Bool) where
   )
 
 pub loop-i-init : goal.loop-i-init
-loop-i-init c =
-    (c.nodes-n.ensures, omega arith, (rw c.put.ensures (get_or-set_same c.args.table.now 0 0 0 (omega arith)), λ a k l. absurd (omega arith)))
+loop-i-init c = (get_or-set_same c.args.table.now 0 0 0 (omega arith), λ a k l. absurd (omega arith))
 
 pub overflow_add-over : goal.overflow_add-over
 overflow_add-over c =
-    let s = c.args.s.now in
-    let p = counted s c.args.delays_only in
-    let above = c.entry-above.ensures ∙ passed_at c.requires.formed p _ c.loop-i.table c.loop-i.invariant.2 _ (omega arith) (omega arith) in
-    omega (arith, c.requires.formed.few, above, over_most s p c.loop-i.i)
+    let f = c.args.self.formed in
+    let p = counted c.args.self.s.now c.args.delays_only in
+    let above = passed_at f p _ c.loop-i.table c.loop-i.invariant c.loop-i.i (omega arith) (omega arith) in
+    omega (arith, f.few, above, over_most c.args.self.s.now p c.loop-i.i)
 
 pub loop-i-preserved : goal.loop-i-preserved
 loop-i-preserved c =
-    let s = c.args.s.now in
+    let s = c.args.self.s.now in
+    let f = c.args.self.formed in
     let p = counted s c.args.delays_only in
-    let l = c.loop-i.invariant in
-    let above = c.entry-above.ensures ∙ passed_at c.requires.formed p _ c.loop-i.table l.2 _ (omega arith) (omega arith) in
+    let above = passed_at f p _ c.loop-i.table c.loop-i.invariant c.loop-i.i (omega arith) (omega arith) in
     let over_is : c.if-counted.over ≡ over_of s p c.loop-i.i + cond (p c.loop-i.i) 1 0 =
     elim c.if-counted.branch [
       | then-counted w ↦ rw (← c.counted.ensures, w.if-counted.true) (omega (arith, w.over-is, above))
       | else-counted w ↦ rw (← c.counted.ensures, w.if-counted.false) (omega (arith, w.over-is, above))
     ] in
-    (l.0, omega arith, passed_more c.requires.formed p _ (omega arith) _ _ _ over_is l.2 c.hand_down.ensures)
+    passed_more f p _ (omega arith) _ _ _ over_is c.loop-i.invariant c.hand_down.ensures
 
 pub returns : goal.returns
-returns c j h =
-    passed_at c.requires.formed (counted c.args.s.now c.args.delays_only) _ c.loop-i.table c.loop-i.invariant.2 j (omega arith) h
+returns c j h = passed_at c.args.self.formed (counted c.args.self.s.now c.args.delays_only) _ c.loop-i.table c.loop-i.invariant j (omega arith) h

@@ -4,11 +4,10 @@ use native.Mathlib.Decide.{ℕ_discrete}
 use lib.ListN.{set, length-set}
 use lib.Seq.{get_or-set_other}
 use Rattle.finite.proofs.ListLaws.{stored}
-use Rattle.sheet.specs.Bytes.{arity as operands, arity_at, operand}
+use Rattle.sheet.specs.Bytes.{arity_at, operand}
 use Rattle.sheet.proofs.SheetLaws.{operand_node}
 use Rattle.rules.specs.Scope.{HandedDown}
-use Rattle.rules.proofs.FunctionLaws.{operand_read}
-use Rattle.rules.proofs.hand_down.Goals as goal
+use Rattle.rules.proofs.Tree.hand_down.Goals as goal
 
 handed_none : (s : List ℕ) (i over : ℕ) (table : List ℕ) → HandedDown s i 0 over table table
 handed_none s i over table = record { size = refl; operands = λ k l. absurd (omega arith); others = λ j other. refl }
@@ -23,22 +22,24 @@ handed_more s i m over old new d h = record {
 }
 
 pub loop-k-init : goal.loop-k-init
-loop-k-init c = (c.arity-arity.ensures ∙ ap operands c.kind_at.ensures, omega arith, handed_none _ _ _ _)
+loop-k-init c = handed_none _ _ _ _
 
-pub put-requires : goal.put-requires
-put-requires c =
-    let p = c.requires in
-    let here = operand_read p.formed c.args.ends.now p.ends _ _ _ p.i_bound (omega arith) c.operand.ensures in
-    rw here (omega (arith, p.formed.few, operand_node p.formed _ p.i_bound c.loop-k.k (omega arith)))
+pub bounds-table-index : goal.bounds-table-index
+bounds-table-index c =
+    let t = c.args.self in
+    let h = c.requires.i_bound in
+    let b : c.loop-k.k < arity_at t.s.now c.args.i.0 = rw (← c.kind_at.ensures, ← c.arity-k-end.ensures) c.loop-k-test.true in
+    rw (c.index.ensures, c.operand.ensures h b) (omega (arith, t.formed.few, operand_node t.formed _ h c.loop-k.k b))
 
 pub loop-k-preserved : goal.loop-k-preserved
 loop-k-preserved c =
-    let p = c.requires in
-    let l = c.loop-k.invariant in
-    let here = operand_read p.formed c.args.ends.now p.ends _ _ _ p.i_bound (omega arith) c.operand.ensures in
-    (l.0, omega arith, rw (c.put.ensures, here) (handed_more _ _ _ _ _ _ l.2 (omega (arith, p.formed.few, operand_node p.formed _ p.i_bound c.loop-k.k (omega arith)))))
+    let t = c.args.self in
+    let h = c.requires.i_bound in
+    let b : c.loop-k.k < arity_at t.s.now c.args.i.0 = rw (← c.kind_at.ensures, ← c.arity-k-end.ensures) c.loop-k-test.true in
+    rw (c.index.ensures, c.operand.ensures h b)
+    (handed_more _ _ _ _ _ _ c.loop-k.invariant (omega (arith, t.formed.few, c.loop-k.invariant.size, operand_node t.formed _ h c.loop-k.k b)))
 
 pub returns : goal.returns
 returns c =
-    let e : c.loop-k.k ≡ arity_at c.args.s.now c.args.i.0 = omega arith in
-    rw e at c.loop-k.invariant.2
+    let e : c.loop-k.k ≡ arity_at c.args.self.s.now c.args.i.0 = rw (← c.kind_at.ensures, ← c.arity-k-end.ensures) (omega arith) in
+    rw e at c.loop-k.invariant

@@ -3,14 +3,14 @@ use Rattle.std.proofs.Common.{◌≡◌, ℕ, ◌<◌, not, refl, ap, ◌∙◌,
 use Rattle.number.specs.Operators.{operands}
 use Rattle.number.specs.declared.Operator.{Operator}
 use Rattle.number.specs.declared.Operator.TheVariants.{Not, And, Or, Xor, If, Eq, Lt, Le, Add, Sub, Mul, Div, Neg, Mod}
-use Rattle.sheet.specs.Bytes.{arity, arity_at, operand, operand_by}
+use Rattle.sheet.specs.Bytes.{nodes, arity, arity_at, operand}
 use Rattle.sheet.specs.declared.ValueType.{ValueType}
 use Rattle.sheet.specs.declared.Kind.{Kind}
 use Rattle.sheet.specs.declared.Kind.TheVariants.{Const, Input, Var, Op, Fby, Rec, Let, Check, Contract, Unknown}
 use Rattle.sheet.proofs.SheetLaws.{operand_node}
 use Rattle.rules.specs.Types.{type_in, type_at, fits, well_typed, mistyped}
-use Rattle.rules.proofs.FunctionLaws.{operand_read}
-use Rattle.rules.proofs.mistyped.Goals as goal
+use Rattle.rules.specs.Check.{breaks}
+use Rattle.rules.proofs.Tree.mistyped.Goals as goal
 
 -- types past a node's operands are not looked at
 module _ {a b c a' b' c' : ValueType} where
@@ -45,16 +45,12 @@ module _ {a b c a' b' c' : ValueType} where
   well_local Unknown p q r = refl
 
 pub returns : goal.returns
-unfolding mistyped
+unfolding breaks mistyped
 returns c =
     let p = c.requires in
-    let table = c.args.table.now in
-    let s = c.args.s.now in
+    let s = c.args.self.s.now in
     let i = c.args.i.0 in
-    let typed : (k : ℕ) (o : ℕ) (t : ValueType) → t ≡ type_in table o → (i < 512 → o ≡ operand_by c.args.ends.now i k) → k < arity_at s i → t ≡ type_at s (operand s i k) =
-    λ k o t e r b. e ∙ ap (type_in table) (operand_read p.formed c.args.ends.now p.ends i k o p.i_bound b r) ∙ p.typed _ (operand_node p.formed i p.i_bound k b) in
+    let typed : (k : ℕ) (t : ValueType) → (i < nodes s → k < arity_at s i → t ≡ type_in c.args.table.now (operand s i k)) → k < arity_at s i → t ≡ type_at s (operand s i k) =
+    λ k t e b. e p.i_bound b ∙ p.typed _ (operand_node c.args.self.formed i p.i_bound k b) in
     rw (c.well_typed.ensures, c.kind_at.ensures)
-    (ap not (well_local _
-    (typed 0 _ _ c.type_in-a.ensures c.operand.ensures)
-    (typed 1 _ _ c.type_in-b.ensures c.operand-2.ensures)
-    (typed 2 _ _ c.type_in-c.ensures c.operand-3.ensures)))
+    (ap not (well_local _ (typed 0 _ c.operand_type-a.ensures) (typed 1 _ c.operand_type-b.ensures) (typed 2 _ c.operand_type-c.ensures)))
