@@ -11,6 +11,6 @@ pub type_length : (t : ValueType) → length (type_word t) ≤ 4
 type_length bool = omega arith
 type_length int = omega arith
 
-pub refused-length : (number place : ℕ) → number < 1000 → place < 18446744073709551616 → length (refused_line number place) ≤ 33
+pub refused_length : (number place : ℕ) → number < 1000 → place < 18446744073709551616 → length (refused_line number place) ≤ 33
 unfolding refused_line
-refused-length number place n p = simp length-append (omega (arith, decimal-length 2 number (omega arith), decimal-length 19 place (omega arith)))
+refused_length number place n p = simp length-append (omega (arith, decimal-length 2 number (omega arith), decimal-length 19 place (omega arith)))

@@ -1,29 +1,32 @@
 // The words that more than one program prints: a type and a refusal.
 #![tactic(auto)]
 
-ghost use Rattle.text.specs.Text.{Appends, Puts};
+ghost use Rattle.std.specs.Prelude.{◌≤◌, length};
+ghost use Rattle.text.specs.Text.{Appends};
 ghost use Rattle.sheet.specs.Ruling.{number_of, place_of};
 ghost use Rattle.words.specs.Words.{type_word, refused_line};
 
+use arrayvec::ArrayVec;
 use sheet::{Refusal, ValueType};
 
-pub fn put_type(out: &mut [u8], at: usize, t: ValueType) -> usize
-    ensures { Appends (type_word t) out.old out.new at result }
+pub fn put_type<const N: usize>(out: &mut ArrayVec<u8, N>, t: ValueType)
+    ensures { Appends N (type_word t) out.old.items out.new.items }
 {
-    match t {
-        ValueType::Bool => text::put(out, at, b"bool"),
-        ValueType::Int => text::put(out, at, b"int"),
-    }
+    let word: &[u8] = match t {
+        ValueType::Bool => b"bool",
+        ValueType::Int => b"int",
+    };
+    text::put(out, word);
 }
 
-pub fn put_refusal(out: &mut [u8], at: usize, r: Refusal) -> usize
-    ensures { Puts 33 (refused_line (number_of r) (place_of r)) out.old out.new at result }
+#[tactic(auto, using(text::proofs::TextLaws::append_then, crate::proofs::WordLaws::refused_length), unfolding(crate::specs::Words::refused_line))]
+pub fn put_refusal<const N: usize>(out: &mut ArrayVec<u8, N>, r: Refusal)
+    ensures text { Appends N (refused_line (number_of r) (place_of r)) out.old.items out.new.items }
+    ensures short { length (refused_line (number_of r) (place_of r)) ≤ 33 }
 {
-    let number = r.number() as u64;
-    let place = r.place() as u64;
-    let at = text::put(out, at, b"refused ");
-    let at = text::put_decimal(out, at, number);
-    let at = text::put(out, at, b" ");
-    let at = text::put_decimal(out, at, place);
-    text::put(out, at, b"\n")
+    text::put(out, b"refused ");
+    text::put_decimal(out, r.number() as u64);
+    text::put(out, b" ");
+    text::put_decimal(out, r.place() as u64);
+    text::put(out, b"\n");
 }

@@ -2,4 +2,4 @@
 use Rattle.text.proofs.+put_decimal.Given as goal
 
 abbrev pub decreases-put_decimal : goal.decreases-put_decimal
-decreases-put_decimal l = l.n
+decreases-put_decimal g l = l.n
