@@ -107,6 +107,5 @@ module _ (a : ℕ) where
 -- ---- words that differ from the first byte on
 
 pub same_front : (w v : List ℕ) (b : ℕ) → (byte w 0 ≡ b → ⊥) → same w (b ∷ v) ≡ false
-unfolding same
 same_front [] v b n = refl
 same_front (c ∷ w) v b n = rw (ne_eqb c b n)

@@ -5,15 +5,16 @@ use mathlib.Core.Logic.{◌↔◌}
 use mathlib.Core.Bool.{true, false, not}
 use mathlib.Core.List.{List, [], ◌∷◌, ◌++◌, append-nil, append_assoc}
 use native.Mathlib.Omega.{arith}
+use Rattle.std.proofs.Common.{Result, Ok}
 use lib.ListN.{length, replicate, take, drop, length-append, length-drop, take-append-drop}
 use lib.Seq.{take-add, take_all, drop_at, drop-drop}
 use borrow.Author.Tests.{not-false}
 use Rattle.finite.specs.Lists.{joined}
 use Rattle.finite.proofs.JoinedLaws.{joined_cong, joined_length, joined-parts, joined-entries}
 use Rattle.number.specs.Word.{word}
-use Rattle.text.proofs.TextLaws.{holds_text}
 use Rattle.sheet.specs.Ceilings.{max_columns}
 use Rattle.sheet.specs.Ruling.{passed, rule, ◌then◌}
+use Rattle.sheet.specs.declared.Refusal.{Refusal}
 use Rattle.sheet.specs.Bytes.{byte, columns, type_of, column_type, nodes, start, kind_at, argument}
 use Rattle.sheet.specs.Form.{bad_record, Formed}
 use Rattle.sheet.specs.declared.ValueType.{ValueType}
@@ -24,8 +25,6 @@ use Rattle.words.specs.Words.{type_word}
 use Rattle.listing.specs.Listing.{name, carried, opening, closings, node_text, node_at, column_at, listing}
 use Rattle.listing.specs.Telling.{parts, split, filled, words, record_of, is_type, next, records_told, types_told, headed, told_by, sheet_told}
 use Rattle.listing.specs.Answers.{is_bytes, is_listing, room_rule, writer_rules, text_rule, reader_rules, Answers}
-use Rattle.listing.specs.declared.Listed.{Listed}
-use Rattle.listing.specs.declared.Listed.TheVariants.{Length}
 use Rattle.listing.proofs.TellingLaws.{words-joined, words_node, type_byte, NodeTells, tells, records-joined, types-joined, types-end, untyped-joined}
 use Rattle.listing.proofs.LengthLaws.{byte_small, argument_small}
 use Rattle.listing.proofs.AnswerLaws.{listed_length}
@@ -194,24 +193,24 @@ listing_exactly t = (
 -- ---- the same of the operations, by their contracts
 
 -- what was written is read as the sheet: only the room can be refused
-pub read_after_write : {s before after room left : List ℕ} {n : ℕ} {r : Listed} → is_bytes s ≡ true →
-    Answers (writer_rules s (length before)) (listing s) before after (Length n) →
+pub read_after_write : {s before after room left : List ℕ} {n : ℕ} {r : Result ℕ Refusal} → is_bytes s ≡ true →
+    Answers (writer_rules s (length before)) (listing s) before after (Ok n) →
     Answers (reader_rules (take n after) (length room)) (sheet_told (take n after)) room left r → Answers (room_rule (length room) s) s room left r
 unfolding writer_rules reader_rules text_rule ◌then◌
 read_after_write {s} {n = n} bytes w k =
-    let done = listed_length w n refl in
+    let done = listed_length w in
     let f : Formed s = (form_iff s).0 ((then_passed _ _).0 done.0).0 in
     let told = (told_exactly s (listing s)).1 (bytes, f, refl) in
     let passes : rule (not (is_listing (listing s))) 16 0 ≡ passed = (rule-passed _ _ _).1 (ap not told.0) in
-    rw (passes, told.1) at (rw (holds_text done.1) at k)
+    rw (passes, told.1) at (rw done.1 at k)
 
 -- what was read is written as the text
-pub write_after_read : {t before after room left : List ℕ} {n : ℕ} {r : Listed} →
-    Answers (reader_rules t (length before)) (sheet_told t) before after (Length n) →
+pub write_after_read : {t before after room left : List ℕ} {n : ℕ} {r : Result ℕ Refusal} →
+    Answers (reader_rules t (length before)) (sheet_told t) before after (Ok n) →
     Answers (writer_rules (take n after) (length room)) (listing (take n after)) room left r → Answers (room_rule (length room) t) t room left r
 unfolding writer_rules reader_rules text_rule ◌then◌
 write_after_read {t} {n = n} k w =
-    let done = listed_length k n refl in
+    let done = listed_length k in
     let listed : is_listing t ≡ true = not-false _ ((rule-passed _ _ _).0 ((then_passed _ _).0 done.0).0) in
     let told = (told_exactly (sheet_told t) t).0 (listed, refl) in
-    rw ((form_iff (sheet_told t)).1 told.1, told.2) at (rw (holds_text done.1) at w)
+    rw ((form_iff (sheet_told t)).1 told.1, told.2) at (rw done.1 at w)

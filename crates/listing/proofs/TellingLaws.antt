@@ -28,7 +28,7 @@ use Rattle.listing.proofs.DigitLaws.{decimal_front, words-numbered, words-intege
 
 -- for words that are known
 unfoldable computes : ℕ
-unfolding name carried words split filled parts records_told record_told takes_next is_constant is_number numbered named name_no name_record is_type type_no constant_record record_of kind_of lowest same known
+unfolding name carried words split filled parts records_told record_told takes_next is_constant is_number numbered named name_no name_record is_type type_no constant_record record_of kind_of lowest known
 computes = 0
 
 -- ---- the words of texts one after the other

@@ -1,13 +1,12 @@
 -- Request P1: what the writer and the reader answer, and what the lent room holds at the end.
-use Rattle.std.specs.Prelude.{ℕ, ◌≡◌, Bool, not, ◌&&◌, List, ◌++◌, ltb, length, drop}
+use Rattle.std.specs.Prelude.{ℕ, ◌≡◌, Bool, not, ◌&&◌, List, ◌++◌, ltb, length, drop, Result}
 use Rattle.finite.specs.Lists.{all, same}
-use Rattle.sheet.specs.Ruling.{Ruling, rule, passes, ◌then◌, Outcome, accepted, turned, answer, at_end, lent_place, number_of, place_of}
+use Rattle.sheet.specs.Ruling.{Ruling, rule, passes, ◌then◌, answer, at_end, lent_place, said}
 use Rattle.sheet.specs.Form.{form}
 use Rattle.sheet.specs.declared.Lent.TheVariants.{Room}
+use Rattle.sheet.specs.declared.Refusal.{Refusal}
 use Rattle.listing.specs.Listing.{listing}
 use Rattle.listing.specs.Telling.{sheet_told}
-use Rattle.listing.specs.declared.Listed.{Listed}
-use Rattle.listing.specs.declared.Listed.TheVariants.{Length, Refused}
 
 -- sheets are of bytes
 abbrev pub is_bytes : List ℕ → Bool
@@ -36,11 +35,7 @@ text_rule text = rule (not (is_listing text)) 16 0
 unfoldable pub reader_rules : (text : List ℕ) → (room : ℕ) → Ruling
 reader_rules text room = text_rule text then room_rule room (sheet_told text)
 
-abbrev pub said_listed : Listed → Outcome ℕ
-said_listed (Length n) = accepted n
-said_listed (Refused r) = turned (number_of r) (place_of r)
-
 -- "Both answer the result's length. Room past the result is unchanged." A refusal changes nothing
-pub record Answers (rules : Ruling) (result before after : List ℕ) (r : Listed) : Type 0 where
-  pub answers : said_listed r ≡ answer rules (length result)
+pub record Answers (rules : Ruling) (result before after : List ℕ) (r : Result ℕ Refusal) : Type 0 where
+  pub answers : said r ≡ answer rules (length result)
   pub room : after ≡ at_end rules (result ++ drop (length result) before) before

@@ -1,82 +1,65 @@
-// The listing of a sheet, for installers to read and return: what it is, what sheet a text tells, that each tells the other, and the names
-// that the writer and the reader share.
+// The listing of a sheet, for installers to read and return: what it is, what sheet a text tells, that each tells the other, and what the
+// writer and the reader share: the names, and how a result comes into the lent room.
 #![tactic(auto)]
 
 ghost use Rattle.std.specs.Prelude.{◌≡◌, length};
-ghost use Rattle.text.specs.Text.{Appends};
-ghost use Rattle.sheet.specs.Ceilings.{max_sheet};
-ghost use Rattle.listing.specs.Listing.{operator_name, name, max_text};
+ghost use Rattle.listing.specs.Listing.{operator_name, name};
+ghost use Rattle.listing.specs.Answers.{room_rule, Answers};
 
 use number::Operator;
-use sheet::{Kind, Refusal, Sheet};
+use sheet::{Kind, Lent, Refusal, Sheet};
 
-// The answer of the writer and of the reader: the result's length, or a refusal.
-#[derive(Clone, Copy)]
-pub enum Listed {
-    Length(usize),
-    Refused(Refusal),
-}
+// No listing is longer: `sheet`, ` bool` for each column, and for each node ` (fby -2147483648` with a closing bracket.
+pub const TEXT: usize = 5 + 5 * Sheet::COLUMNS + 18 * Sheet::NODES;
 
-impl Listed {
-    // No listing is longer: `sheet`, ` bool` for each column, and for each node ` (fby -2147483648` with a closing bracket.
-    pub const TEXT: usize = 5 + 5 * Sheet::COLUMNS + 18 * Sheet::NODES;
-
-    // The longest sheet.
-    pub const SHEET: usize = 4 + Sheet::COLUMNS + 6 * Sheet::NODES;
-
-    // Room for any listing, and for any sheet.
-
-    pub fn text() -> [u8; Listed::TEXT]
-        ensures { length result ≡ max_text }
-    {
-        [0; Listed::TEXT]
-    }
-
-    pub fn sheet() -> [u8; Listed::SHEET]
-        ensures { length result ≡ max_sheet }
-    {
-        [0; Listed::SHEET]
-    }
-}
+// The longest sheet.
+pub const SHEET: usize = 4 + Sheet::COLUMNS + 6 * Sheet::NODES;
 
 // The names.
 
-fn put_operator(out: &mut [u8], at: usize, o: Operator) -> usize
-    ensures { Appends (operator_name o) out.old out.new at result }
+fn operator_name(o: Operator) -> &'static [u8]
+    ensures { result.now ≡ operator_name o }
 {
     match o {
-        Operator::Not => text::put(out, at, b"not"),
-        Operator::And => text::put(out, at, b"and"),
-        Operator::Or => text::put(out, at, b"or"),
-        Operator::Xor => text::put(out, at, b"xor"),
-        Operator::If => text::put(out, at, b"if"),
-        Operator::Eq => text::put(out, at, b"eq"),
-        Operator::Lt => text::put(out, at, b"lt"),
-        Operator::Le => text::put(out, at, b"le"),
-        Operator::Add => text::put(out, at, b"add"),
-        Operator::Sub => text::put(out, at, b"sub"),
-        Operator::Mul => text::put(out, at, b"mul"),
-        Operator::Div => text::put(out, at, b"div"),
-        Operator::Neg => text::put(out, at, b"neg"),
-        Operator::Mod => text::put(out, at, b"mod"),
+        Operator::Not => b"not",
+        Operator::And => b"and",
+        Operator::Or => b"or",
+        Operator::Xor => b"xor",
+        Operator::If => b"if",
+        Operator::Eq => b"eq",
+        Operator::Lt => b"lt",
+        Operator::Le => b"le",
+        Operator::Add => b"add",
+        Operator::Sub => b"sub",
+        Operator::Mul => b"mul",
+        Operator::Div => b"div",
+        Operator::Neg => b"neg",
+        Operator::Mod => b"mod",
     }
 }
 
 // The name of a node with operands; nothing for one that stands bare.
-#[tactic(auto, using(text::proofs::TextLaws::append_none), unfolding(crate::specs::Listing::name))]
-pub fn put_name(out: &mut [u8], at: usize, k: Kind) -> usize
-    ensures { Appends (name k) out.old out.new at result }
+#[tactic(auto, unfolding(crate::specs::Listing::name))]
+pub fn name(k: Kind) -> &'static [u8]
+    ensures { result.now ≡ name k }
 {
     match k {
-        Kind::Const(_) => at,
-        Kind::Input => at,
-        Kind::Var => at,
-        Kind::Op(o) => put_operator(out, at, o),
-        Kind::Fby(_) => text::put(out, at, b"fby"),
-        Kind::Rec(_) => text::put(out, at, b"rec"),
-        Kind::Let => text::put(out, at, b"let"),
-        Kind::Check => text::put(out, at, b"check"),
-        Kind::Contract => text::put(out, at, b"contract"),
-        Kind::Unknown => at,
+        Kind::Op(o) => operator_name(o),
+        Kind::Fby(_) => b"fby",
+        Kind::Rec(_) => b"rec",
+        Kind::Let => b"let",
+        Kind::Check => b"check",
+        Kind::Contract => b"contract",
+        Kind::Const(_) | Kind::Input | Kind::Var | Kind::Unknown => b"",
     }
+}
+
+// A result as an answer: its bytes in the lent room and its length, or a refusal where the room is too short.
+pub fn answer(whole: &[u8], room: &mut [u8]) -> Result<usize, Refusal>
+    ensures { Answers (room_rule (length room.old) whole.now) whole.now room.old room.new result }
+{
+    if room.len() < whole.len() {
+        return Err(Refusal::Lent(Lent::Room));
+    }
+    Ok(text::copy_out(whole, room))
 }
