@@ -19,26 +19,18 @@ pub fn need_count(k: Kind) -> usize
     ensures { result ≡ need_count k }
 {
     match k {
-        Kind::Const(_) => 0,
-        Kind::Input => 0,
-        Kind::Var => 1,
         Kind::Op(o) => number::operands(o),
-        Kind::Fby(_) => 0,
-        Kind::Rec(_) => 1,
-        Kind::Let => 1,
-        Kind::Check => 1,
-        Kind::Contract => 1,
-        Kind::Unknown => 0,
+        Kind::Var | Kind::Rec(_) | Kind::Let | Kind::Check | Kind::Contract => 1,
+        Kind::Const(_) | Kind::Input | Kind::Fby(_) | Kind::Unknown => 0,
     }
 }
 
 // What a VAR that names b needs.
-#[tactic(auto, unfolding(crate::specs::Needs::named_need))]
+#[tactic(auto, using(crate::proofs::FunctionLaws::operand_is, crate::proofs::FunctionLaws::few), unfolding(crate::specs::Needs::named_need, sheet::specs::Bytes::arity))]
 fn named_need(s: &[u8], ends: &[u16; Sheet::NODES], b: Node) -> Node
     ensures { Given s.now ends.now → b.0 < nodes s.now → result.0 ≡ named_need s.now b.0 (kind_at s.now b.0) }
 {
-    let k = sheet::kind_at(s, b);
-    match k {
+    match sheet::kind_at(s, b) {
         Kind::Let => sheet::operand(ends, b, 0),
         Kind::Contract => sheet::operand(ends, b, 1),
         _ => b,
@@ -46,67 +38,68 @@ fn named_need(s: &[u8], ends: &[u16; Sheet::NODES], b: Node) -> Node
 }
 
 // Need k of a node, k from 0.
+#[tactic(auto, using(crate::proofs::FunctionLaws::operand_is, crate::proofs::FunctionLaws::few, crate::proofs::NeedsLaws::need_at), unfolding(crate::specs::Needs::needs, sheet::specs::Bytes::arity, sheet::specs::Bytes::is_var))]
 pub fn need(s: &[u8], ends: &[u16; Sheet::NODES], i: Node, k: usize) -> Node
     ensures { Given s.now ends.now → i.0 < nodes s.now → k < need_count (kind_at s.now i.0) → result.0 ≡ get_or (needs s.now i.0) k 0 }
 {
-    let kind = sheet::kind_at(s, i);
-    match kind {
+    match sheet::kind_at(s, i) {
         Kind::Op(_) => sheet::operand(ends, i, k),
         Kind::Var => named_need(s, ends, sheet::binder(s, i)),
         Kind::Rec(_) => sheet::operand(ends, i, 0),
-        _ => sheet::operand(ends, i, 1),
+        Kind::Let | Kind::Check | Kind::Contract => sheet::operand(ends, i, 1),
+        Kind::Const(_) | Kind::Input | Kind::Fby(_) | Kind::Unknown => i,
     }
 }
 
-// Marks of the nodes that are placed.
-
-fn unmarked() -> [bool; Sheet::NODES]
-    ensures { result ≡ replicate max_nodes false }
-{
-    [false; Sheet::NODES]
+// The nodes that are placed.
+#[derive(Drop)]
+struct Marks {
+    marks: [bool; Sheet::NODES],
+    ghost whole: { length marks ≡ max_nodes },
 }
 
-fn marked(marks: &[bool], i: Node) -> bool
-    ensures { result ≡ get_or marks.now i.0 false }
-{
-    let at = sheet::index(i);
-    if at < marks.len() { marks[at] } else { false }
-}
+impl Marks {
+    fn new() -> Marks
+        ensures { result.marks ≡ replicate max_nodes false }
+    {
+        Marks {
+            marks: [false; Sheet::NODES],
+        }
+    }
 
-fn mark(marks: &mut [bool], i: Node)
-    ensures { marks.new ≡ set marks.old i.0 true }
-{
-    let at = sheet::index(i);
-    if at < marks.len() {
-        marks[at] = true;
+    fn has(&self, i: Node) -> bool
+        ensures { result ≡ get_or self.now.marks i.0 false }
+    {
+        self.marks.get(sheet::index(i)).copied().unwrap_or(false)
+    }
+
+    fn put(&mut self, i: Node)
+        ensures { self.new.marks ≡ set self.old.marks i.0 true }
+    {
+        let at = sheet::index(i);
+        if at < self.marks.len() {
+            self.marks[at] = true;
+        }
     }
 }
 
 // The lowest node not yet placed whose needs are all placed, n where there is none.
-fn next(s: &[u8], ends: &[u16; Sheet::NODES], placed: &[bool; Sheet::NODES], n: u16) -> Node
-    ensures { Given s.now ends.now → n ≤ nodes s.now → result.0 ≡ lowest (ready (needs s.now) (λ k. get_or placed.now k false)) 0 n }
+fn next(s: &[u8], ends: &[u16; Sheet::NODES], placed: &Marks, n: u16) -> Node
+    ensures { Given s.now ends.now → n ≤ nodes s.now → result.0 ≡ lowest (ready (needs s.now) (λ k. get_or placed.now.marks k false)) 0 n }
 {
-    let mut i: u16 = 0;
-    let found = 'nodes: loop {
-        if n <= i {
-            break n;
+    'nodes: for i in 0..n {
+        if placed.has(Node(i)) {
+            continue;
         }
-        if !marked(placed, Node(i)) {
-            let count = need_count(sheet::kind_at(s, Node(i)));
-            let mut k = 0;
-            'needs: loop {
-                if count <= k {
-                    break 'nodes i;
-                }
-                if !marked(placed, need(s, ends, Node(i), k)) {
-                    break 'needs;
-                }
-                k += 1;
+        let count = need_count(sheet::kind_at(s, Node(i)));
+        for k in 0..count {
+            if !placed.has(need(s, ends, Node(i), k)) {
+                continue 'nodes;
             }
         }
-        i += 1;
-    };
-    Node(found)
+        return Node(i);
+    }
+    Node(n)
 }
 
 // The house order, into a slice of as many entries as the sheet has nodes.
@@ -117,29 +110,20 @@ pub fn fill_house(s: &[u8], ends: &[u16; Sheet::NODES], order: &mut [u16])
         return;
     }
     let n = order.len() as u16;
-    let mut placed = unmarked();
-    let mut p = 0;
-    while p < order.len() {
+    let mut placed = Marks::new();
+    for entry in order.iter_mut() {
         let i = next(s, ends, &placed, n);
-        order[p] = i.0;
-        mark(&mut placed, i);
-        p += 1;
+        *entry = i.0;
+        placed.put(i);
     }
 }
 
 // Whether a node's needs are all placed.
-fn met(s: &[u8], ends: &[u16; Sheet::NODES], placed: &[bool; Sheet::NODES], i: Node) -> bool
-    ensures { Given s.now ends.now → i.0 < nodes s.now → result ≡ all (λ k. get_or placed.now k false) (needs s.now i.0) }
+fn met(s: &[u8], ends: &[u16; Sheet::NODES], placed: &Marks, i: Node) -> bool
+    ensures { Given s.now ends.now → i.0 < nodes s.now → result ≡ all (λ k. get_or placed.now.marks k false) (needs s.now i.0) }
 {
     let count = need_count(sheet::kind_at(s, i));
-    let mut k = 0;
-    while k < count {
-        if !marked(placed, need(s, ends, i, k)) {
-            return false;
-        }
-        k += 1;
-    }
-    true
+    (0..count).all(|k| placed.has(need(s, ends, i, k)))
 }
 
 // Rule 15: the lowest position whose entry is not under N, was seen earlier, or comes before a need.
@@ -150,16 +134,13 @@ pub fn test_order(s: &[u8], ends: &[u16; Sheet::NODES], order: &[u16]) -> Judged
     if Sheet::NODES < n {
         return Judged::Refused(Refusal::Lent(Lent::Order));
     }
-    let mut seen = unmarked();
-    let mut p: u16 = 0;
-    while (p as usize) < n {
-        let at = p as usize;
-        let i = Node(order[at]);
-        if (n <= sheet::index(i)) | marked(&seen, i) | !met(s, ends, &seen, i) {
-            return Judged::Refused(Refusal::Order(Position(p)));
+    let mut seen = Marks::new();
+    for (p, entry) in order.iter().enumerate() {
+        let i = Node(*entry);
+        if n <= sheet::index(i) || seen.has(i) || !met(s, ends, &seen, i) {
+            return Judged::Refused(Refusal::Order(Position(p as u16)));
         }
-        mark(&mut seen, i);
-        p += 1;
+        seen.put(i);
     }
     Judged::Passed
 }
