@@ -1,6 +1,6 @@
 -- "Needs within a tick: OP needs its operands; REC its operand; LET and CONTRACT the body; CHECK its value; a VAR the REC node, the LET's
 -- definition, or the CONTRACT's body. CONST, INPUT and FBY need nothing."
-use Rattle.std.specs.Prelude.{ℕ, true, List, [], ◌∷◌}
+use Rattle.std.specs.Prelude.{ℕ, ◌<◌, ◌≡◌, Bool, true, false, List, [], ◌∷◌, get_or}
 use Rattle.finite.specs.Lists.{gather}
 use Rattle.number.specs.Operators.{operands}
 use Rattle.sheet.specs.Bytes.{kind_at, argument, operand, Ends}
@@ -48,6 +48,10 @@ need_count Let = 1
 need_count Check = 1
 need_count Contract = 1
 need_count Unknown = 0
+
+-- the needs of node i are all marked
+abbrev pub Met : List ℕ → (marks : List Bool) → (i : ℕ) → Type 0
+Met s marks i = (k : ℕ) → k < need_count (kind_at s i) → get_or marks (get_or (needs s i) k 0) false ≡ true
 
 -- what needs are looked up by: a sheet that every rule accepts, and a table that has its ends
 pub record Given (s endTable : List ℕ) : Type 0 where

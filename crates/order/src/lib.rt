@@ -1,14 +1,13 @@
 // Needs within a tick, the house order, and the test of an order (rule 15).
 #![tactic(auto)]
 
-ghost use Rattle.std.specs.Prelude.{◌≡◌, false, true, ◌<◌, ◌≤◌, length, get_or, set, replicate};
+ghost use Rattle.std.specs.Prelude.{◌≡◌, ◌↔◌, IsTrue, false, true, ◌<◌, ◌≤◌, length, get_or, set, replicate};
 ghost use Rattle.finite.specs.Lowest.{lowest};
-ghost use Rattle.finite.specs.Lists.{all};
 ghost use Rattle.table.specs.Order.{ready};
 ghost use Rattle.sheet.specs.Ceilings.{max_nodes};
 ghost use Rattle.sheet.specs.Ruling.{told};
 ghost use Rattle.sheet.specs.Bytes.{nodes, kind_at};
-ghost use Rattle.order.specs.Needs.{needs, named_need, need_count, Given};
+ghost use Rattle.order.specs.Needs.{needs, named_need, need_count, Met, Given};
 ghost use Rattle.order.specs.Orders.{house_order, ordered, HouseOrder};
 
 use rules::Checked;
@@ -26,7 +25,7 @@ pub fn need_count(k: Kind) -> usize
 }
 
 // What a VAR that names b needs.
-#[tactic(auto, using(crate::proofs::FunctionLaws::operand_is, crate::proofs::FunctionLaws::few), unfolding(crate::specs::Needs::named_need, sheet::specs::Bytes::arity))]
+#[tactic(auto, using(crate::proofs::FunctionLaws::operand_is), unfolding(crate::specs::Needs::named_need, sheet::specs::Bytes::arity))]
 fn named_need(s: &[u8], ends: &[u16; Sheet::NODES], b: Node) -> Node
     ensures { Given s.now ends.now → b.0 < nodes s.now → result.0 ≡ named_need s.now b.0 (kind_at s.now b.0) }
 {
@@ -38,7 +37,7 @@ fn named_need(s: &[u8], ends: &[u16; Sheet::NODES], b: Node) -> Node
 }
 
 // Need k of a node, k from 0.
-#[tactic(auto, using(crate::proofs::FunctionLaws::operand_is, crate::proofs::FunctionLaws::few, crate::proofs::NeedsLaws::need_at), unfolding(crate::specs::Needs::needs, sheet::specs::Bytes::arity, sheet::specs::Bytes::is_var))]
+#[tactic(auto, using(crate::proofs::FunctionLaws::operand_is, crate::proofs::NeedsLaws::need_at), unfolding(crate::specs::Needs::needs, sheet::specs::Bytes::arity, sheet::specs::Bytes::is_var))]
 pub fn need(s: &[u8], ends: &[u16; Sheet::NODES], i: Node, k: usize) -> Node
     ensures { Given s.now ends.now → i.0 < nodes s.now → k < need_count (kind_at s.now i.0) → result.0 ≡ get_or (needs s.now i.0) k 0 }
 {
@@ -84,6 +83,7 @@ impl Marks {
 }
 
 // The lowest node not yet placed whose needs are all placed, n where there is none.
+#[tactic(auto, using(crate::proofs::FunctionLaws::all_met, crate::proofs::FunctionLaws::not_met, finite::proofs::LowestLaws::lowest_none), unfolding(table::specs::Order::ready))]
 fn next(s: &[u8], ends: &[u16; Sheet::NODES], placed: &Marks, n: u16) -> Node
     ensures { Given s.now ends.now → n ≤ nodes s.now → result.0 ≡ lowest (ready (needs s.now) (λ k. get_or placed.now.marks k false)) 0 n }
 {
@@ -120,13 +120,14 @@ pub fn fill_house(s: &[u8], ends: &[u16; Sheet::NODES], order: &mut [u16])
 
 // Whether a node's needs are all placed.
 fn met(s: &[u8], ends: &[u16; Sheet::NODES], placed: &Marks, i: Node) -> bool
-    ensures { Given s.now ends.now → i.0 < nodes s.now → result ≡ all (λ k. get_or placed.now.marks k false) (needs s.now i.0) }
+    ensures { Given s.now ends.now → i.0 < nodes s.now → (IsTrue result ↔ Met s.now placed.now.marks i.0) }
 {
     let count = need_count(sheet::kind_at(s, i));
     (0..count).all(|k| placed.has(need(s, ends, i, k)))
 }
 
 // Rule 15: the lowest position whose entry is not under N, was seen earlier, or comes before a need.
+#[tactic(auto, using(crate::proofs::FunctionLaws::none_tried))]
 pub fn test_order(s: &[u8], ends: &[u16; Sheet::NODES], order: &[u16]) -> Judged
     ensures { Given s.now ends.now → length order.now ≡ nodes s.now → told result ≡ ordered s.now order.now }
 {
