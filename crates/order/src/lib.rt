@@ -24,6 +24,9 @@ pub fn need_count(k: Kind) -> usize
     }
 }
 
+// Needs. That the sheet is accepted and the table has its ends is a premise of what these ensure, and no ghost field of a struct of the two:
+// need, fill_house and test_order ask nothing of callers.
+
 // What a VAR that names b needs.
 #[tactic(auto, using(crate::proofs::FunctionLaws::operand_is), unfolding(crate::specs::Needs::named_need, sheet::specs::Bytes::arity))]
 fn named_need(s: &[u8], ends: &[u16; Sheet::NODES], b: Node) -> Node
@@ -72,6 +75,7 @@ impl Marks {
         self.marks.get(sheet::index(i)).copied().unwrap_or(false)
     }
 
+    // By index, since the contract of get_mut doesn't say what the slice holds after a write.
     fn put(&mut self, i: Node)
         ensures { self.new.marks ≡ set self.old.marks i.0 true }
     {
