@@ -5,4 +5,5 @@ pub mod OneResult
 mod FillLaws
 pub mod RunLaws
 mod FunctionLaws
+mod EachLaws
 mod OperationLaws

@@ -73,16 +73,9 @@ impl RunState {
         requires { (self.failing ≤ self.ticks) × (self.ticks < operations.max_rows) }
         ensures { (result.ticks ≡ self.ticks + 1) × (result.failing ≡ cond failed 1 0 + self.failing) }
     {
-        if failed {
-            Self {
-                ticks: self.ticks + 1,
-                failing: 1 + self.failing,
-            }
-        } else {
-            Self {
-                ticks: self.ticks + 1,
-                failing: self.failing,
-            }
+        Self {
+            ticks: self.ticks + 1,
+            failing: self.failing + usize::from(failed),
         }
     }
 
@@ -366,45 +359,42 @@ fn faulty(t: ValueType, v: i32) -> bool
     ensures { result ≡ faults.faulty t v }
 {
     match t {
-        ValueType::Bool => !((v == 0) | (v == 1)),
+        ValueType::Bool => !matches!(v, 0 | 1),
         ValueType::Int => false,
     }
 }
 
 // Rule 13, over rows laid end to end.
+#[tactic(auto, using(crate::proofs::EachLaws::passed_all), unfolding(crate::specs::Rows::row_rule, crate::specs::Rows::bad_entry))]
 fn test_rows(s: &[u8], rows: &[i32]) -> Judged
     requires { columns s.now ≡ 0 → length rows.now ≡ 0 }
     ensures { told result ≡ faults.row_rule s.now rows.now }
 {
     let columns = sheet::byte(s, 3) as usize;
-    let mut at = 0;
-    while at < rows.len() {
+    for (at, v) in rows.iter().enumerate() {
         let c = Column((at % columns) as u16);
-        if faulty(sheet::column_type(s, c), rows[at]) {
+        if faulty(sheet::column_type(s, c), *v) {
             return Judged::Refused(Refusal::Row(at));
         }
-        at += 1;
     }
     Judged::Passed
 }
 
 // Rule 14, slot by slot.
+#[tactic(auto, using(crate::proofs::EachLaws::passed_all), unfolding(crate::specs::Rows::cell_rule, rules::specs::Slots::slot, rules::specs::Slots::slots, finite::specs::Count::count))]
 fn test_cells(s: &[u8], cells: &[i32]) -> Judged
     requires { nodes s.now ≤ max_nodes }
     ensures { told result ≡ faults.cell_rule s.now cells.now }
 {
     let n = sheet::nodes(s) as u16;
-    let mut j: u16 = 0;
-    let mut i: u16 = 0;
-    while i < n {
-        let k = sheet::kind_at(s, Node(i));
-        if let Kind::Fby(t) = k {
+    let mut j = 0;
+    for i in 0..n {
+        if let Kind::Fby(t) = sheet::kind_at(s, Node(i)) {
             if faulty(t, cell(cells, Slot(j))) {
                 return Judged::Refused(Refusal::Cell(Slot(j)));
             }
             j += 1;
         }
-        i += 1;
     }
     Judged::Passed
 }
@@ -454,21 +444,12 @@ fn test_tick(
     order::test_order(s, ends, order)
 }
 
-// Whether so many entries are so many rows.
-fn whole_rows(entries: usize, ticks: usize, columns: usize) -> bool
-    ensures { result ≡ eqb entries (ticks * columns) }
-{
-    if columns == 0 {
-        return entries == 0;
-    }
-    (entries % columns == 0) & (entries / columns == ticks)
-}
-
 // Rules 12 and 13 of a run.
 fn test_run(s: &[u8], rows: &[i32], ticks: usize) -> Judged
     ensures { told result ≡ operations.run_tests s.now rows.now ticks }
 {
-    if !whole_rows(rows.len(), ticks, sheet::byte(s, 3) as usize) {
+    let columns = sheet::byte(s, 3) as usize;
+    if ticks.checked_mul(columns) != Some(rows.len()) {
         return Judged::Refused(Refusal::Lent(Lent::Rows));
     }
     if RunState::ROWS < ticks {
