@@ -1,7 +1,7 @@
 -- The ticks of a run: what the lent slices hold after some of them, for whatever values meet the equations.
 use Prim.Native.Nat.{ℕ, ◌+◌, ◌-◌, ◌*◌, ◌≤◌, ◌<◌}
 use mathlib.Core.Path.{◌≡◌, refl, ap, ◌∙◌}
-use mathlib.Core.Bool.{Bool, true, false, cond}
+use mathlib.Core.Bool.{true, cond}
 use mathlib.Core.List.{List, ◌++◌}
 use native.Mathlib.Nat.{suc-mul, mul-le-mul_right}
 use native.Mathlib.Numerals.{add-one}
@@ -40,7 +40,6 @@ row_is s rows t c e = let z : t * c + c - t * c ≡ c = omega arith in rw (z, e)
 pub record After (s : List ℕ) (rows lent outputs cells values : List ℤ) (ticks failing : ℕ) : Type 0 where
   pub few : length lent ≤ max_rows
   pub within : ticks ≤ length lent
-  pub fewer : failing ≤ ticks
   pub outputs-size : length outputs ≡ length lent
   pub cells-size : length cells ≡ slots s
   pub values-size : length values ≡ nodes s
@@ -55,17 +54,11 @@ after_none {s} few c v t f =
     record {
       few = few;
       within = omega arith;
-      fewer = omega arith;
       outputs-size = refl;
       cells-size = length-start s;
       values-size = v;
       means = λ X m. (refl, refl, stream_start s X);
     }
-
--- a Bool as a number
-at_most_one : (b : Bool) → cond b 1 0 ≤ 1
-at_most_one true = omega arith
-at_most_one false = omega arith
 
 module _ {s : List ℕ} {rows lent outputs cells values : List ℤ} {ticks failing : ℕ} (d : After s rows lent outputs cells values ticks failing) where
   -- one tick more, over the cells and the values, with its output and its count of failures
@@ -78,7 +71,6 @@ module _ {s : List ℕ} {rows lent outputs cells values : List ℤ} {ticks faili
       record {
         few = d.few;
         within = omega arith;
-        fewer = omega (arith, d.fewer, at_most_one (ltb 0 n));
         outputs-size = simp length-set d.outputs-size;
         cells-size = ap length w.cells ∙ length-next s (at (pos 0) values');
         values-size = w.size;

@@ -47,6 +47,7 @@ pub enum Ran {
 pub struct RunState {
     pub ticks: usize,
     pub failing: usize,
+    ghost fewer: { failing ≤ ticks },
 }
 
 impl RunState {
@@ -70,7 +71,7 @@ impl RunState {
 
     // The run after one more tick.
     fn after(self, failed: bool) -> Self
-        requires { (self.failing ≤ self.ticks) × (self.ticks < operations.max_rows) }
+        requires { self.ticks < operations.max_rows }
         ensures { (result.ticks ≡ self.ticks + 1) × (result.failing ≡ cond failed 1 0 + self.failing) }
     {
         Self {

@@ -16,7 +16,7 @@ step-requires-clause-right_order c =
     rw (c.fill_house.ensures p.given p.order_len) (house_right p.given.sound)
 
 pub after-run-requires : goal.after-run-requires
-after-run-requires c = let i = c.loop-run.invariant in (i.fewer, omega (arith, i.few, i.outputs-size))
+after-run-requires c = let i = c.loop-run.invariant in omega (arith, i.few, i.outputs-size)
 
 pub loop-run-preserved : goal.loop-run-preserved
 loop-run-preserved c =
