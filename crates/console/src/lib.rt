@@ -38,12 +38,9 @@ impl Input {
         ensures { result.sheet ≡ min (bytes.stated input.now) (length input.now) }
     {
         let stated = sheet::byte(input, 0) as usize * 256 + sheet::byte(input, 1) as usize;
-        let sheet = if stated < input.len() {
-            stated
-        } else {
-            input.len()
-        };
-        Self { sheet }
+        Self {
+            sheet: stated.min(input.len()),
+        }
     }
 
     // Room for an input: one byte more than is looked at, so that a longer one is seen to be longer.
@@ -131,20 +128,14 @@ fn broken_rows(columns: usize, bytes: usize) -> bool
     requires { columns < 256 }
     ensures { result ≡ printed.broken_rows columns bytes }
 {
-    if columns == 0 {
-        return bytes != 0;
-    }
-    bytes % (4 * columns) != 0
+    !bytes.is_multiple_of(4 * columns)
 }
 
 fn ticks_in(columns: usize, bytes: usize) -> usize
     requires { columns < 256 }
     ensures { result ≡ printed.ticks_by columns bytes }
 {
-    if columns == 0 {
-        return 1;
-    }
-    bytes / (4 * columns)
+    bytes.checked_div(4 * columns).unwrap_or(1)
 }
 
 fn int_at(bytes: &[u8], k: usize) -> i32
@@ -164,10 +155,8 @@ fn read_ints(bytes: &[u8], ints: &mut [i32])
     requires { (length ints.old ≡ length bytes.now / 4) × (length ints.old ≤ max_ints) }
     ensures { ints.new ≡ printed.ints bytes.now }
 {
-    let mut k = 0;
-    while k < ints.len() {
-        ints[k] = int_at(bytes, k);
-        k += 1;
+    for (k, int) in ints.iter_mut().enumerate() {
+        *int = int_at(bytes, k);
     }
 }
 
@@ -195,8 +184,7 @@ fn put_ticks(
     order::house_order(s, order);
     engine::start(s, cells);
     let mut end = at;
-    let mut t = 0;
-    while t < ticks {
+    for t in 0..ticks {
         let from = t * columns;
         let to = from + columns;
         let ticked = engine::tick(s, &rows[from..to], cells, &*order, values);
@@ -209,7 +197,6 @@ fn put_ticks(
                 return end;
             }
         }
-        t += 1;
     }
     end
 }

@@ -10,7 +10,7 @@ use Rattle.console.proofs.put_ticks.Goals as goal
 pub loop-t-init : goal.loop-t-init
 loop-t-init c =
     let p = c.requires in
-    (omega arith, ((run_exactly _ _ _).0 p.ticks_value).2, ticks_none (start_given c.start.ensures (run_sound _ _ p.ticks_value) p.cells_len).1 p.values_len)
+    (((run_exactly _ _ _).0 p.ticks_value).2, ticks_none (start_given c.start.ensures (run_sound _ _ p.ticks_value) p.cells_len).1 p.values_len)
 
 -- the tick's row ends within the rows
 pub slice_bounds-tick-end : goal.slice_bounds-tick-end
@@ -24,7 +24,7 @@ returns-in-Refused c =
     let p = c.requires in
     let l = c.loop-t in
     let house = house_given c.house_order.ensures (run_sound _ _ p.ticks_value) p.order_len in
-    absurd (tick_done p.ticks_value l.invariant.2 (omega arith) (row_is _ _ l.t _ p.columns_value) house.2 c.tick-ticked.ensures c.in-Refused.is)
+    absurd (tick_done p.ticks_value l.invariant.1 (omega arith) (row_is _ _ l.t _ p.columns_value) house.2 c.tick-ticked.ensures c.in-Refused.is)
 
 pub loop-t-preserved : goal.loop-t-preserved
 loop-t-preserved c =
@@ -33,9 +33,9 @@ loop-t-preserved c =
     let house = house_given c.house_order.ensures (run_sound _ _ p.ticks_value) p.order_len in
     let f : SFits w32 c.in-Done.a.root = search rules in
     let line = rw (back f) at c.put_tick-end.ensures in
-    (omega arith, l.invariant.1, ticks-more p.ticks_value l.invariant.2 (omega arith) (row_is _ _ l.t _ p.columns_value) house.2 c.tick-ticked.ensures c.in-Done.is line)
+    (l.invariant.0, ticks-more p.ticks_value l.invariant.1 (omega arith) (row_is _ _ l.t _ p.columns_value) house.2 c.tick-ticked.ensures c.in-Done.is line)
 
 pub returns : goal.returns
 returns c = λ X m.
     let e : c.loop-t.t ≡ c.args.ticks = omega arith in
-    rw e at (c.loop-t.invariant.2.lines X m).1
+    rw e at (c.loop-t.invariant.1.lines X m).1
