@@ -1,10 +1,10 @@
 -- Right orders and the house order of a sheet, rule 15, and what House order answers and leaves.
-use Rattle.std.specs.Prelude.{ℕ, ◌≡◌, List, length}
+use Rattle.std.specs.Prelude.{ℕ, ◌≡◌, List, length, Result}
 use Rattle.table.specs.Order.{Right, misplaced, house}
 use Rattle.sheet.specs.Ruling.{Ruling, lent, each, ◌then◌, told, at_end}
 use Rattle.sheet.specs.Bytes.{nodes}
 use Rattle.sheet.specs.declared.Lent.TheVariants.{Order}
-use Rattle.sheet.specs.declared.Judged.{Judged}
+use Rattle.sheet.specs.declared.Refusal.{Refusal}
 use Rattle.rules.specs.Check.{rules}
 use Rattle.order.specs.Needs.{needs}
 
@@ -25,6 +25,6 @@ unfoldable pub house_rules : List ℕ → ℕ → Ruling
 house_rules s size = rules s then lent Order size (nodes s)
 
 -- what House order answers, and what the lent slice holds at the end
-pub record HouseOrder (s old : List ℕ) (r : Judged) (new : List ℕ) : Type 0 where
+pub record HouseOrder (s old : List ℕ) (r : Result (Unit {0}) Refusal) (new : List ℕ) : Type 0 where
   pub answer : told r ≡ house_rules s (length old)
   pub order : new ≡ at_end (house_rules s (length old)) (house_order s) old

@@ -10,8 +10,7 @@ ghost use Rattle.sheet.specs.Bytes.{nodes, kind_at};
 ghost use Rattle.order.specs.Needs.{needs, named_need, need_count, Met, Given};
 ghost use Rattle.order.specs.Orders.{house_order, ordered, HouseOrder};
 
-use rules::Checked;
-use sheet::{Judged, Kind, Lent, Node, Position, Refusal, Sheet};
+use sheet::{Kind, Lent, Node, Position, Refusal, Sheet};
 
 // How many needs a node of a kind has.
 pub fn need_count(k: Kind) -> usize
@@ -132,39 +131,34 @@ fn met(s: &[u8], ends: &[u16; Sheet::NODES], placed: &Marks, i: Node) -> bool
 
 // Rule 15: the lowest position whose entry is not under N, was seen earlier, or comes before a need.
 #[tactic(auto, using(crate::proofs::FunctionLaws::none_tried))]
-pub fn test_order(s: &[u8], ends: &[u16; Sheet::NODES], order: &[u16]) -> Judged
+pub fn test_order(s: &[u8], ends: &[u16; Sheet::NODES], order: &[u16]) -> Result<(), Refusal>
     ensures { Given s.now ends.now → length order.now ≡ nodes s.now → told result ≡ ordered s.now order.now }
 {
     let n = order.len();
     if Sheet::NODES < n {
-        return Judged::Refused(Refusal::Lent(Lent::Order));
+        return Err(Refusal::Lent(Lent::Order));
     }
     let mut seen = Marks::new();
     for (p, entry) in order.iter().enumerate() {
         let i = Node(*entry);
         if n <= sheet::index(i) || seen.has(i) || !met(s, ends, &seen, i) {
-            return Judged::Refused(Refusal::Order(Position(p as u16)));
+            return Err(Refusal::Order(Position(p as u16)));
         }
         seen.put(i);
     }
-    Judged::Passed
+    Ok(())
 }
 
 // House order.
-pub fn house_order(s: &[u8], order: &mut [u16]) -> Judged
+pub fn house_order(s: &[u8], order: &mut [u16]) -> Result<(), Refusal>
     ensures { HouseOrder s.now order.old result order.new }
 {
     let mut ends = Sheet::fresh();
     let mut slotted = Sheet::fresh();
-    let checked = rules::judge(s, &mut ends, &mut slotted);
-    match checked {
-        Checked::Refused(r) => Judged::Refused(r),
-        Checked::Accepted(z) => {
-            if order.len() != z.nodes {
-                return Judged::Refused(Refusal::Lent(Lent::Order));
-            }
-            fill_house(s, &ends, order);
-            Judged::Passed
-        }
+    let z = rules::judge(s, &mut ends, &mut slotted)?;
+    if order.len() != z.nodes {
+        return Err(Refusal::Lent(Lent::Order));
     }
+    fill_house(s, &ends, order);
+    Ok(())
 }

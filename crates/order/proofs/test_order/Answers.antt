@@ -1,31 +1,24 @@
 -- An entry is misplaced where it is not under N, was seen, or has a need that was not.
-use Rattle.std.proofs.Common.{◌≡◌, ℕ, ◌+◌, ◌<◌, Bool, true, false, List, sym, lt-ltb, arith}
-use Rattle.finite.proofs.LowestLaws.{lowest-is}
+use Rattle.std.proofs.Common.{true, false, sym, arith}
 use Rattle.table.specs.Order.{ready}
-use Rattle.sheet.specs.Bytes.{nodes}
-use Rattle.sheet.specs.Ruling.{rule, each, refused}
-use Rattle.sheet.proofs.RulingLaws.{each-passed}
+use Rattle.sheet.proofs.RulingLaws.{each-passed, each_refused}
 use Rattle.order.specs.Orders.{ordered}
-use Rattle.order.proofs.FunctionLaws.{bad, Tried, met_is, bad_over, bad_ready, tried_more}
+use Rattle.order.proofs.FunctionLaws.{met_is, bad_over, bad_ready, tried_more}
 use Rattle.order.proofs.test_order.Goals as goal
 use Rattle.order.proofs.test_order.Goals.{then-n-index-via-then-n-index, then-n-index-via-else-n-index+then-has, then-n-index-via-else-n-index+else-has+then-not-met}
 
-refused_at : (s order : List ℕ) (seen : List Bool) (p : ℕ) → Tried s order seen p → p < nodes s → bad s order p ≡ true → refused 15 p ≡ ordered s order
-unfolding ordered each rule
-refused_at s order seen p t l b =
-    rw (lowest-is (bad s order) 0 (nodes s) p (omega arith) (omega arith) b (λ j _ u. t.none j u), lt-ltb p (0 + nodes s) (omega arith))
-
 pub returns-then-n-index : goal.returns-then-n-index
-unfolding ready
+unfolding ordered ready
 returns-then-n-index c g e =
     let t = c.loop-p.invariant g e in
-    refused_at _ _ _ _ t (omega arith)
+    each_refused _ _ _ _ _ (omega arith) (omega arith)
     (elim c.then-n-index.branch [
       | then-n-index-via-then-n-index w ↦ bad_over _ _ _ _ t (omega arith)
       | then-n-index-via-else-n-index+then-has w ↦ bad_ready _ _ _ _ t false (omega arith) (rw (← w.has.ensures, w.if-has.true))
       | then-n-index-via-else-n-index+else-has+then-not-met w ↦
           bad_ready _ _ _ _ t false (omega arith) (rw (← w.has.ensures, w.if-has.false, ← met_is _ _ _ _ (w.met.ensures g (omega arith)), w.if-not-met.true))
     ])
+    (λ q _ l. t.none q l)
 
 pub loop-p-preserved : goal.loop-p-preserved
 unfolding ready
