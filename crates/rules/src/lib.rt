@@ -15,7 +15,7 @@ use number::Operator;
 use sheet::{Kind, Node, Refusal, Sheet, ValueType};
 
 // The rules that are tested node by node.
-#[derive(Clone, Copy)]
+#[derive(Clone, Copy, Debug, PartialEq, Eq)]
 pub enum Rule {
     Depth,
     Scope,
@@ -130,13 +130,13 @@ pub fn fill_slots(s: &[u8], table: &mut [u16; Sheet::NODES]) -> usize
         return 0;
     }
     let mut slot: u16 = 0;
-    for i in 0..n as u16 {
-        table[i as usize] = slot;
-        if is_fby(sheet::kind_at(s, Node(i))) {
+    for i in 0..n {
+        table[i] = slot;
+        if is_fby(sheet::kind_at(s, Node(i as u16))) {
             slot += 1;
         }
     }
-    slot as usize
+    usize::from(slot)
 }
 
 // A sheet that passes rules 1 to 6, with the table of where each expression ends.
@@ -149,6 +149,18 @@ struct Tree<'a> {
 }
 
 impl<'a> Tree<'a> {
+    fn kind(self, i: Node) -> Kind
+        ensures { result ≡ bytes.kind_at self.entry.s.now i.0 }
+    {
+        sheet::kind_at(self.s, i)
+    }
+
+    fn arity(self, i: Node) -> usize
+        ensures { result ≡ bytes.arity_at self.entry.s.now i.0 }
+    {
+        sheet::arity(self.kind(i))
+    }
+
     // Operand k of a node, and the node just past an expression.
 
     fn operand(self, i: Node, k: usize) -> Node
@@ -171,8 +183,7 @@ impl<'a> Tree<'a> {
         requires i_bound { i.0 < bytes.nodes self.s.now }
         ensures { scope.HandedDown self.entry.s.now i.0 (bytes.arity_at self.entry.s.now i.0) over table.old table.new }
     {
-        let s = self.s;
-        for k in 0..sheet::arity(sheet::kind_at(s, i)) {
+        for k in 0..self.arity(i) {
             table[sheet::index(self.operand(i, k))] = over;
         }
     }
@@ -183,23 +194,22 @@ impl<'a> Tree<'a> {
         let s = self.s;
         table[0] = 0;
         for i in 0..sheet::nodes(s) as u16 {
-            let above = table[i as usize];
-            let over = if counted(s, delays_only, Node(i)) {
-                above + 1
-            } else {
-                above
-            };
+            let above = table[usize::from(i)];
+            let over = above + u16::from(counted(s, delays_only, Node(i)));
             self.hand_down(Node(i), over, table);
         }
     }
 
+    // Depth.
     fn too_deep(self, overs: &[u16; Sheet::NODES], i: Node) -> bool
         requires overs { scope.Overs self.s.now false overs.now }
         requires i_bound { i.0 < bytes.nodes self.s.now }
         ensures { result ≡ check.breaks self.entry.s.now Rule.Depth i.0 }
     {
-        Sheet::DEPTH < 1 + overs[sheet::index(i)] as usize
+        Sheet::DEPTH < 1 + usize::from(overs[sheet::index(i)])
     }
+
+    // Scope.
 
     // Node i lies in operand k of node b.
     #[tactic(auto, unfolding(sheet::specs::Bytes::lies))]
@@ -219,13 +229,15 @@ impl<'a> Tree<'a> {
             return false;
         }
         let b = sheet::binder(s, i);
-        match sheet::kind_at(s, b) {
+        match self.kind(b) {
             Kind::Rec(_) => self.lies(b, 0, i),
             Kind::Let => self.lies(b, 1, i),
             Kind::Contract => self.lies(b, 2, i),
             _ => false,
         }
     }
+
+    // Types.
 
     // The type of operand k of a node.
     fn operand_type(self, table: &[ValueType; Sheet::NODES], i: Node, k: usize) -> ValueType
@@ -241,8 +253,7 @@ impl<'a> Tree<'a> {
         requires b_bound { b.0 < bytes.nodes self.s.now }
         ensures { result ≡ types.named_type self.entry.s.now (types.type_in table.now) b.0 (bytes.kind_at self.entry.s.now b.0) }
     {
-        let s = self.s;
-        match sheet::kind_at(s, b) {
+        match self.kind(b) {
             Kind::Rec(t) => t,
             Kind::Let => self.operand_type(table, b, 0),
             Kind::Contract => self.operand_type(table, b, 1),
@@ -255,21 +266,20 @@ impl<'a> Tree<'a> {
         requires i_bound { i.0 < bytes.nodes self.s.now }
         ensures { result ≡ check.breaks self.entry.s.now Rule.Types i.0 }
     {
-        let s = self.s;
         let a = self.operand_type(table, i, 0);
         let b = self.operand_type(table, i, 1);
         let c = self.operand_type(table, i, 2);
-        !well_typed(sheet::kind_at(s, i), a, b, c)
+        !well_typed(self.kind(i), a, b, c)
     }
 
+    // Slots.
     #[tactic(auto, unfolding(crate::specs::Check::breaks))]
     fn slotless(self, table: &[u16; Sheet::NODES], i: Node) -> bool
         requires slotted { slots.Slotted self.s.now table.now }
         requires i_bound { i.0 < bytes.nodes self.s.now }
         ensures { result ≡ check.breaks self.entry.s.now Rule.Slots i.0 }
     {
-        let s = self.s;
-        is_fby(sheet::kind_at(s, i)) & (Sheet::SLOTS <= table[sheet::index(i)] as usize)
+        is_fby(self.kind(i)) & (Sheet::SLOTS <= usize::from(table[sheet::index(i)]))
     }
 
     // A rule over all nodes, where `breaks` tests one.
@@ -301,11 +311,7 @@ impl<'a> Tree<'a> {
     fn scope(self) -> Result<(), Refusal>
         ensures { told result ≡ check.ruled self.entry.s.now Rule.Scope }
     {
-        let s = self.s;
-        self.ruled(
-            Rule::Scope,
-            |i| is_var(sheet::kind_at(s, i)) & !self.scoped(i),
-        )
+        self.ruled(Rule::Scope, |i| is_var(self.kind(i)) & !self.scoped(i))
     }
 
     // Rules 7 to 10. Where they hold, the table has the types.
@@ -336,7 +342,7 @@ impl<'a> ScopedTree<'a> {
     {
         let tree = self.tree;
         let s = tree.s;
-        match sheet::kind_at(s, i) {
+        match tree.kind(i) {
             Kind::Const(t) | Kind::Fby(t) | Kind::Rec(t) => t,
             Kind::Input => sheet::column_type(s, sheet::input_column(s, i)),
             Kind::Var => tree.named_type(table, sheet::binder(s, i)),
@@ -353,9 +359,8 @@ impl<'a> ScopedTree<'a> {
         ensures { types.Settled self.entry.tree.s.now i.0 (bytes.end_of self.entry.tree.s.now i.0) table.old table.new }
     {
         let tree = self.tree;
-        let s = tree.s;
         let mut next = Node(i.0 + 1);
-        for _ in 0..sheet::arity(sheet::kind_at(s, i)) {
+        for _ in 0..tree.arity(i) {
             self.settle(next, table);
             next = tree.end(next);
         }
@@ -369,12 +374,12 @@ impl<'a> ScopedTree<'a> {
         requires i_bound { i.0 < bytes.nodes self.tree.s.now }
         ensures { result ≡ check.breaks self.entry.tree.s.now Rule.Unguarded i.0 }
     {
-        let s = self.tree.s;
-        if !is_var(sheet::kind_at(s, i)) {
+        let tree = self.tree;
+        if !is_var(tree.kind(i)) {
             return false;
         }
-        let b = sheet::binder(s, i);
-        if !is_rec(sheet::kind_at(s, b)) {
+        let b = sheet::binder(tree.s, i);
+        if !is_rec(tree.kind(b)) {
             return false;
         }
         overs[sheet::index(i)] <= overs[sheet::index(b)]
@@ -420,11 +425,11 @@ pub fn judge(
     let mut table = untyped();
     tree.tree_rules(&mut table)?;
     let slots = fill_slots(s, slotted);
-    let counted = &*slotted;
-    tree.ruled(Rule::Slots, |i| tree.slotless(counted, i))?;
+    let slot_of = &*slotted;
+    tree.ruled(Rule::Slots, |i| tree.slotless(slot_of, i))?;
     Ok(Sheet {
         nodes: sheet::nodes(s),
-        columns: sheet::byte(s, 3) as usize,
+        columns: usize::from(sheet::byte(s, 3)),
         slots,
         root: table[0],
     })

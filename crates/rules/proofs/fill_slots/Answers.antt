@@ -34,4 +34,4 @@ pub returns : goal.returns
 unfolding slot_of slots
 returns c h =
     let e : c.loop-i.i ≡ nodes c.args.s.now = omega arith in
-    (c.loop-i.invariant.0 ∙ ap (count (fby_at c.args.s.now)) e, λ j u. c.loop-i.invariant.1 j (omega arith))
+    (c.from.ensures ∙ c.loop-i.invariant.0 ∙ ap (count (fby_at c.args.s.now)) e, λ j u. c.loop-i.invariant.1 j (omega arith))

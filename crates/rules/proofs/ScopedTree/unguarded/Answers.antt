@@ -21,14 +21,14 @@ returns-then-not-is_rec c =
     let z = c.args.self in
     let s = z.tree.s.now in
     let v = sym c.if-not-is_var.ensures in
-    let n = binder_read _ z.tree.formed z.scoped _ _ c.requires.i_bound (rw (← c.kind_at.ensures) v) c.binder-b.ensures in
-    let other : is_rec (kind_at s (argument s c.args.i.0)) ≡ false = rw (← n.0, ← c.kind_at-2.ensures) (sym c.if-not-is_rec.ensures) in
-    rw (← c.kind_at.ensures, v, other)
+    let n = binder_read _ z.tree.formed z.scoped _ _ c.requires.i_bound (rw (← c.kind.ensures) v) c.binder-b.ensures in
+    let other : is_rec (kind_at s (argument s c.args.i.0)) ≡ false = rw (← n.0, ← c.kind-2.ensures) (sym c.if-not-is_rec.ensures) in
+    rw (← c.kind.ensures, v, other)
 
 pub bounds-overs-index-2 : goal.bounds-overs-index-2
 bounds-overs-index-2 c =
     let z = c.args.self in
-    let n = binder_read _ z.tree.formed z.scoped _ _ c.requires.i_bound (rw (← c.kind_at.ensures) (sym c.if-not-is_var.ensures)) c.binder-b.ensures in
+    let n = binder_read _ z.tree.formed z.scoped _ _ c.requires.i_bound (rw (← c.kind.ensures) (sym c.if-not-is_var.ensures)) c.binder-b.ensures in
     omega (arith, n, z.tree.formed.few)
 
 pub returns : goal.returns
@@ -41,9 +41,9 @@ returns c =
     let i = c.args.i.0 in
     let overs = c.args.overs.now in
     let b = argument s i in
-    let v : is_var (kind_at s i) ≡ true = rw (← c.kind_at.ensures) (sym c.if-not-is_var.ensures) in
+    let v : is_var (kind_at s i) ≡ true = rw (← c.kind.ensures) (sym c.if-not-is_var.ensures) in
     let n = binder_read _ f sc _ _ p.i_bound v c.binder-b.ensures in
-    let rec : is_rec (kind_at s b) ≡ true = rw (← n.0, ← c.kind_at-2.ensures) (sym c.if-not-is_rec.ensures) in
+    let rec : is_rec (kind_at s b) ≡ true = rw (← n.0, ← c.kind-2.ensures) (sym c.if-not-is_rec.ensures) in
     let counts : (j : ℕ) → j < nodes s → get_or overs j 0 ≡ over s (fby_at s) j = λ j h. p.overs j h ∙ over_delays s j in
     rw (v, rec, guarded_counts s b i (scoped-above f b i (sc i p.i_bound v)) (rec_no_fby (kind_at s b) rec))
     (rw (c.index.ensures, c.index-2.ensures, n.0, counts i p.i_bound, counts b n.1) (not_more (over s (fby_at s) i) (over s (fby_at s) b)))

@@ -1,6 +1,7 @@
 -- A node's number is its parent's, and one more where the parent counts; it is there before the node is reached.
-use Rattle.std.proofs.Common.{◌≡◌, ℕ, zero, suc, ◌+◌, ◌<◌, ◌≤◌, Bool, cond, List, sym, ◌∙◌, get_or, arith}
+use Rattle.std.proofs.Common.{◌≡◌, ℕ, zero, suc, ◌+◌, ◌<◌, ◌≤◌, Bool, true, false, cond, refl, List, sym, ◌∙◌, get_or, arith}
 use native.Mathlib.Decide.{ℕ_discrete}
+use Rattle.std.specs.Int.{from_bool}
 use lib.Seq.{get_or-set_same}
 use Rattle.sheet.specs.Bytes.{nodes, arity_at, operand}
 use Rattle.sheet.specs.Form.{Formed}
@@ -9,7 +10,6 @@ use Rattle.rules.specs.Scope.{over as over_of, counted, HandedDown}
 use Rattle.rules.proofs.GuardLaws.{over_first, over_most, over_handed}
 use Rattle.rules.proofs.FunctionLaws.{Reached}
 use Rattle.rules.proofs.Tree.fill_overs.Goals as goal
-use Rattle.rules.proofs.Tree.fill_overs.Goals.{then-counted, else-counted}
 
 module _ {s : List ℕ} (f : Formed s) (p : ℕ → Bool) where
   -- where the nodes before i are passed, the table is right at every node up to i
@@ -29,6 +29,11 @@ module _ {s : List ℕ} (f : Formed s) (p : ℕ → Bool) where
     ],
   )
 
+-- above a node's operands there is one more, if it counts
+one_more : (b : Bool) → (from_bool b ≡ cond b 1 0) × (from_bool b ≤ 1)
+one_more true = (refl, omega arith)
+one_more false = (refl, omega arith)
+
 pub loop-i-init : goal.loop-i-init
 loop-i-init c = (get_or-set_same c.args.table.now 0 0 0 (omega arith), λ a k l. absurd (omega arith))
 
@@ -36,21 +41,18 @@ pub overflow_add-over : goal.overflow_add-over
 overflow_add-over c =
     let f = c.args.self.formed in
     let p = counted c.args.self.s.now c.args.delays_only in
-    let above = passed_at f p _ c.loop-i.table c.loop-i.invariant c.loop-i.i (omega arith) (omega arith) in
-    omega (arith, f.few, above, over_most c.args.self.s.now p c.loop-i.i)
+    let above : get_or c.loop-i.table c.from.result 0 ≡ over_of c.args.self.s.now p c.loop-i.i =
+    rw c.from.ensures (passed_at f p _ c.loop-i.table c.loop-i.invariant c.loop-i.i (omega arith) (omega arith)) in
+    omega (arith, f.few, above, over_most c.args.self.s.now p c.loop-i.i, one_more c.counted.result)
 
 pub loop-i-preserved : goal.loop-i-preserved
 loop-i-preserved c =
-    let s = c.args.self.s.now in
     let f = c.args.self.formed in
-    let p = counted s c.args.delays_only in
-    let above = passed_at f p _ c.loop-i.table c.loop-i.invariant c.loop-i.i (omega arith) (omega arith) in
-    let over_is : c.if-counted.over ≡ over_of s p c.loop-i.i + cond (p c.loop-i.i) 1 0 =
-    elim c.if-counted.branch [
-      | then-counted w ↦ rw (← c.counted.ensures, w.if-counted.true) (omega (arith, w.over-is, above))
-      | else-counted w ↦ rw (← c.counted.ensures, w.if-counted.false) (omega (arith, w.over-is, above))
-    ] in
-    passed_more f p _ (omega arith) _ _ _ over_is c.loop-i.invariant c.hand_down.ensures
+    let p = counted c.args.self.s.now c.args.delays_only in
+    let above : get_or c.loop-i.table c.from.result 0 ≡ over_of c.args.self.s.now p c.loop-i.i =
+    rw c.from.ensures (passed_at f p _ c.loop-i.table c.loop-i.invariant c.loop-i.i (omega arith) (omega arith)) in
+    let one = c.from-in-loop-i.ensures ∙ (one_more c.counted.result).0 in
+    passed_more f p _ (omega arith) _ _ _ (rw (above, one, c.counted.ensures)) c.loop-i.invariant c.hand_down.ensures
 
 pub returns : goal.returns
 returns c j h = passed_at c.args.self.formed (counted c.args.self.s.now c.args.delays_only) _ c.loop-i.table c.loop-i.invariant j (omega arith) h

@@ -28,18 +28,18 @@ pub bounds-table-index : goal.bounds-table-index
 bounds-table-index c =
     let t = c.args.self in
     let h = c.requires.i_bound in
-    let b : c.loop-k.k < arity_at t.s.now c.args.i.0 = rw (← c.kind_at.ensures, ← c.arity-k-end.ensures) c.loop-k-test.true in
+    let b : c.loop-k.k < arity_at t.s.now c.args.i.0 = omega arith in
     rw (c.index.ensures, c.operand.ensures h b) (omega (arith, t.formed.few, operand_node t.formed _ h c.loop-k.k b))
 
 pub loop-k-preserved : goal.loop-k-preserved
 loop-k-preserved c =
     let t = c.args.self in
     let h = c.requires.i_bound in
-    let b : c.loop-k.k < arity_at t.s.now c.args.i.0 = rw (← c.kind_at.ensures, ← c.arity-k-end.ensures) c.loop-k-test.true in
+    let b : c.loop-k.k < arity_at t.s.now c.args.i.0 = omega arith in
     rw (c.index.ensures, c.operand.ensures h b)
     (handed_more _ _ _ _ _ _ c.loop-k.invariant (omega (arith, t.formed.few, c.loop-k.invariant.size, operand_node t.formed _ h c.loop-k.k b)))
 
 pub returns : goal.returns
 returns c =
-    let e : c.loop-k.k ≡ arity_at c.args.self.s.now c.args.i.0 = rw (← c.kind_at.ensures, ← c.arity-k-end.ensures) (omega arith) in
+    let e : c.loop-k.k ≡ arity_at c.args.self.s.now c.args.i.0 = omega arith in
     rw e at c.loop-k.invariant

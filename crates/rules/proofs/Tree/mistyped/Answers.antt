@@ -52,5 +52,5 @@ returns c =
     let i = c.args.i.0 in
     let typed : (k : ℕ) (t : ValueType) → (i < nodes s → k < arity_at s i → t ≡ type_in c.args.table.now (operand s i k)) → k < arity_at s i → t ≡ type_at s (operand s i k) =
     λ k t e b. e p.i_bound b ∙ p.typed _ (operand_node c.args.self.formed i p.i_bound k b) in
-    rw (c.well_typed.ensures, c.kind_at.ensures)
+    rw (c.well_typed.ensures, c.kind.ensures)
     (ap not (well_local _ (typed 0 _ c.operand_type-a.ensures) (typed 1 _ c.operand_type-b.ensures) (typed 2 _ c.operand_type-c.ensures)))

@@ -5,4 +5,4 @@ use Rattle.rules.proofs.Tree.too_deep.Goals as goal
 
 pub returns : goal.returns
 unfolding breaks
-returns c = rw (depth-counted, ← c.requires.overs c.args.i.0 c.requires.i_bound, c.index.ensures)
+returns c = rw (c.from.ensures, depth-counted, ← c.requires.overs c.args.i.0 c.requires.i_bound, c.index.ensures)
