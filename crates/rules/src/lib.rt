@@ -163,6 +163,7 @@ impl<'a> Tree<'a> {
 
     // Operand k of a node, and the node just past an expression.
 
+    #[tactic(auto, using(sheet::proofs::SheetLaws::operand_by_table))]
     fn operand(self, i: Node, k: usize) -> Node
         ensures { i.0 < bytes.nodes self.entry.s.now → k < bytes.arity_at self.entry.s.now i.0 → result.0 ≡ bytes.operand self.entry.s.now i.0 k }
     {
@@ -201,6 +202,7 @@ impl<'a> Tree<'a> {
     }
 
     // Depth.
+    #[tactic(auto, unfolding(crate::specs::Check::breaks, crate::specs::Scope::depth, crate::specs::Scope::counted))]
     fn too_deep(self, overs: &[u16; Sheet::NODES], i: Node) -> bool
         requires overs { scope.Overs self.s.now false overs.now }
         requires i_bound { i.0 < bytes.nodes self.s.now }
@@ -212,7 +214,7 @@ impl<'a> Tree<'a> {
     // Scope.
 
     // Node i lies in operand k of node b.
-    #[tactic(auto, unfolding(sheet::specs::Bytes::lies))]
+    #[tactic(auto, using(sheet::proofs::SheetLaws::operand_node), unfolding(sheet::specs::Bytes::lies))]
     fn lies(self, b: Node, k: usize, i: Node) -> bool
         ensures { b.0 < bytes.nodes self.entry.s.now → k < bytes.arity_at self.entry.s.now b.0 → result ≡ bytes.lies self.entry.s.now b.0 k i.0 }
     {
