@@ -2,6 +2,7 @@
 use Rattle.std.proofs.Common.{◌≡◌, ℕ, zero, suc, ◌+◌, ◌*◌, ◌/◌, ◌%◌, ◌^◌, ◌≤◌, ◌<◌, cond, ltb, List, [], ◌∷◌, ◌++◌, length, get_or, take, drop, ℤ, pos, negsuc, refl, sym, ap, ◌∙◌, append-nil, append_assoc, pow-suc, add-one, arith, length-append, length-drop, drop-cons, w32, SFits, ltb-true, ltb-false, lt-ltb, le-ltb}
 use lib.Seq.{take_at, length-take-le}
 use Rattle.std.proofs.Math.Seq.{take_all}
+use Rattle.finite.specs.Lists.{joined}
 use Rattle.finite.proofs.Tests.{by-test}
 use Rattle.text.specs.Text.{decimal_by, decimal, integer, digits_after, digits, Appends, Copied, Prints}
 
@@ -19,6 +20,21 @@ append_then {room} {u} {v} {a} {b} p q =
           let first : b ≡ a ++ u = p.appended (omega (arith, length-append u v)) in
           rw (q.appended (omega (arith, ap length first, length-append u v, length-append a u)), first) (append_assoc a u v);
     }
+
+-- a word appended to nothing
+pub append_first : {room : ℕ} {word before after : List ℕ} → before ≡ [] → Appends room word before after → length word ≤ room → after ≡ word
+append_first e p l = rw e at (p.appended (omega (arith, ap length e)))
+
+-- one list more of lists one after the other
+pub append_next : {room : ℕ} {a b c : List ℕ} (f : ℕ → List ℕ) (n : ℕ) → Appends room (joined f n) a b → Appends room (f n) b c
+    → Appends room (joined f (n + 1)) a c
+unfolding joined
+append_next f n p q = rw (add-one n) (append_then p q)
+
+-- none of them yet
+pub append_start : {room : ℕ} {a : List ℕ} (f : ℕ → List ℕ) → Appends room (joined f 0) a a
+unfolding joined
+append_start f = append_none _ _
 
 -- ---- what is printed
 

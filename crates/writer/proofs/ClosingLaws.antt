@@ -1,4 +1,4 @@
--- Laws of the table of closings that a loop over the nodes fills: counted_none begins it, counted_yes and counted_no are a turn, counted-all ends it.
+-- Laws of the table of closings that a loop over the nodes fills: counted_none begins it, counted_yes and counted_no are a turn, counted_all ends it.
 use Prim.Native.Nat.{ℕ, ◌+◌, ◌-◌, ◌≤◌, ◌<◌}
 use mathlib.Core.Path.{◌≡◌, sym, ap, ◌∙◌}
 use mathlib.Core.Bool.{true, false}
@@ -11,7 +11,7 @@ use Rattle.finite.proofs.Tests.{and_both, and_not_l, and_not_r}
 use Rattle.finite.proofs.CountLaws.{count_none, count_le, count_step_yes, count_step_no}
 use Rattle.finite.proofs.ListLaws.{stored}
 use Rattle.sheet.specs.Ceilings.{max_nodes}
-use Rattle.sheet.specs.Bytes.{nodes, kind_at, end_of}
+use Rattle.sheet.specs.Bytes.{nodes, kind_at, end_of, Ends}
 use Rattle.sheet.specs.Form.{Formed}
 use Rattle.sheet.proofs.SheetLaws.{end_after, end-within}
 use Rattle.listing.specs.Listing.{opens, closes, closings, Closings}
@@ -31,9 +31,9 @@ counted_none {s} f =
     }
 
 module _ {s : List ℕ} {a : ℕ} {table : List ℕ} (old : Counted s a table) where
-  pub counted-all : nodes s ≤ a → Closings s table
+  pub counted_all : nodes s ≤ a → Closings s table
   unfolding closings
-  counted-all u i h = let e : a ≡ nodes s = omega (arith, old.within) in old.counts i h ∙ ap (count (closes s i)) e
+  counted_all u i h = let e : a ≡ nodes s = omega (arith, old.within) in old.counts i h ∙ ap (count (closes s i)) e
 
   pub counted_no : a < nodes s → opens (kind_at s a) ≡ false → Counted s (a + 1) table
   unfolding closes
@@ -44,28 +44,32 @@ module _ {s : List ℕ} {a : ℕ} {table : List ℕ} (old : Counted s a table) w
         counts = λ i l. old.counts i l ∙ sym (count_step_no (closes s i) a (and_not_l (opens (kind_at s a)) _ e));
       }
 
-  -- node a's expression ends where `past` says
-  module _ {past : ℕ} (f : Formed s) (h : a < nodes s) (p : past ≡ end_of s a) where
-    pub past-within : (0 < past) × (past ≤ length table)
-    past-within = (omega (arith, end_after s a h), omega (arith, end-within f a h, f.few, old.room))
+  -- the table of ends says where node a's expression ends
+  module _ (ends : List ℕ) (f : Formed s) (e : Ends s ends) (h : a < nodes s) where
+    pub past_some : 0 < get_or ends a 0
+    past_some = omega (arith, e a h, end_after s a h)
 
-    last_node : past - 1 < nodes s
-    last_node = omega (arith, end-within f a h, past-within.0)
+    last_node : get_or ends a 0 - 1 < nodes s
+    last_node = omega (arith, e a h, end-within f a h, past_some)
 
-    pub past-few : get_or table (past - 1) 0 < 65535
-    past-few = omega (arith, old.counts (past - 1) last_node, count_le (closes s (past - 1)) a, f.few)
+    pub past_within : get_or ends a 0 - 1 < max_nodes
+    past_within = omega (arith, last_node, f.few)
 
-    pub counted_yes : opens (kind_at s a) ≡ true → Counted s (a + 1) (set table (past - 1) (get_or table (past - 1) 0 + 1))
+    pub past_few : get_or table (get_or ends a 0 - 1) 0 < 65535
+    past_few = let last = get_or ends a 0 - 1 in omega (arith, old.counts last last_node, count_le (closes s last) a, f.few)
+
+    pub counted_yes : opens (kind_at s a) ≡ true → Counted s (a + 1) (set table (get_or ends a 0 - 1) (get_or table (get_or ends a 0 - 1) 0 + 1))
     unfolding closes
-    counted_yes e =
-        let last : end_of s a ≡ past - 1 + 1 = omega (arith, past-within.0) in
+    counted_yes o =
+        let last = get_or ends a 0 - 1 in
+        let here : end_of s a ≡ last + 1 = omega (arith, e a h, past_some) in
         record {
           within = omega arith;
           room = simp length-set old.room;
           counts = λ i l.
-              stored (λ j. count (closes s j) (a + 1)) 0 table (past - 1) _ (omega (arith, past-within.0, past-within.1))
-              (ap (λ (n : ℕ). n + 1) (old.counts (past - 1) last_node)
-              ∙ sym (count_step_yes (closes s (past - 1)) a (and_both (opens (kind_at s a)) _ e (eq-eqb _ _ last))))
+              stored (λ j. count (closes s j) (a + 1)) 0 table last _ (omega (arith, past_within, old.room))
+              (ap (λ (n : ℕ). n + 1) (old.counts last last_node)
+              ∙ sym (count_step_yes (closes s last) a (and_both (opens (kind_at s a)) _ o (eq-eqb _ _ here))))
               i
               (λ n. old.counts i l
               ∙ sym (count_step_no (closes s i) a (and_not_r (opens (kind_at s a)) _ (ne_eqb (end_of s a) (i + 1) (λ q. n (omega arith))))));

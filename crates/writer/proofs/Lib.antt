@@ -1,3 +1,2 @@
--- Laws of the table of closings, of the text that the writer appends, and of what it answers.
+-- Laws of the table of closings.
 pub mod ClosingLaws
-pub mod WriterLaws

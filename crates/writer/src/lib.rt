@@ -1,68 +1,58 @@
 // The listing's writer: from a sheet's bytes to its text in a lent room.
 #![tactic(auto)]
 
-ghost use Rattle.std.specs.Prelude.{◌≡◌, ◌++◌, ◌+◌, ◌-◌, ◌<◌, ◌≤◌, length, get_or, set, replicate};
+ghost use Rattle.std.specs.Prelude.{◌≡◌, ◌++◌, length, replicate, Result, OnOk, IfOk};
 ghost use Rattle.finite.specs.Lists.{joined};
 ghost use Rattle.text.specs.Text.{decimal, Appends};
 ghost use Rattle.sheet.specs.Ceilings.{max_nodes};
 ghost use Rattle.sheet.specs.Bytes as bytes;
-ghost use Rattle.sheet.specs.Form.{Formed};
+ghost use Rattle.sheet.specs.Form.{Formed, form};
+ghost use Rattle.sheet.specs.Ruling.{told};
 ghost use Rattle.listing.specs.Listing as text;
 ghost use Rattle.listing.specs.Answers.{Answers, writer_rules, lists};
 
-use listing::Listed;
-use sheet::{Column, Judged, Kind, Lent, Node, Refusal, Sheet, ValueType};
+use arrayvec::ArrayVec;
+use listing::TEXT;
+use sheet::{Column, Kind, Node, Refusal, Sheet, ValueType};
 
 // What a node carries.
 
-fn put_bool(out: &mut [u8], at: usize, a: u32) -> usize
-    ensures { Appends (text.bool_word a) out.old out.new at result }
+fn put_constant<const N: usize>(out: &mut ArrayVec<u8, N>, t: ValueType, a: u32)
+    ensures { Appends N (text.constant t a) out.old.items out.new.items }
 {
-    if a == 0 {
-        text::put(out, at, b"false")
-    } else {
-        text::put(out, at, b"true")
-    }
-}
-
-fn put_constant(out: &mut [u8], at: usize, t: ValueType, a: u32) -> usize
-    ensures { Appends (text.constant t a) out.old out.new at result }
-{
-    match t {
-        ValueType::Bool => put_bool(out, at, a),
-        ValueType::Int => text::put_integer(out, at, number::of_bits(a)),
+    match (t, a) {
+        (ValueType::Bool, 0) => text::put(out, b"false"),
+        (ValueType::Bool, _) => text::put(out, b"true"),
+        (ValueType::Int, _) => text::put_integer(out, number::of_bits(a)),
     }
 }
 
 // A letter and a number.
-fn put_numbered(out: &mut [u8], at: usize, letter: &[u8], a: u32) -> usize
-    ensures { Appends (letter.now ++ decimal a) out.old out.new at result }
+#[tactic(auto, using(text::proofs::TextLaws::append_then))]
+fn put_numbered<const N: usize>(out: &mut ArrayVec<u8, N>, letter: &[u8], a: u32)
+    ensures { Appends N (letter.now ++ decimal a) out.old.items out.new.items }
 {
-    let at = text::put(out, at, letter);
-    text::put_decimal(out, at, a as u64)
+    text::put(out, letter);
+    text::put_decimal(out, a as u64);
 }
 
 #[tactic(auto, using(text::proofs::TextLaws::append_none, text::proofs::TextLaws::append_then), unfolding(listing::specs::Listing::carried))]
-fn put_carried(out: &mut [u8], at: usize, k: Kind, a: u32) -> usize
-    ensures { Appends (text.carried k a) out.old out.new at result }
+fn put_carried<const N: usize>(out: &mut ArrayVec<u8, N>, k: Kind, a: u32)
+    ensures { Appends N (text.carried k a) out.old.items out.new.items }
 {
     match k {
-        Kind::Const(t) => put_constant(out, at, t, a),
-        Kind::Input => put_numbered(out, at, b"i", a),
-        Kind::Var => put_numbered(out, at, b"v", a),
-        Kind::Op(_) => at,
+        Kind::Const(t) => put_constant(out, t, a),
+        Kind::Input => put_numbered(out, b"i", a),
+        Kind::Var => put_numbered(out, b"v", a),
         Kind::Fby(t) => {
-            let at = text::put(out, at, b" ");
-            put_constant(out, at, t, a)
+            text::put(out, b" ");
+            put_constant(out, t, a);
         }
         Kind::Rec(t) => {
-            let at = text::put(out, at, b" ");
-            words::put_type(out, at, t)
+            text::put(out, b" ");
+            words::put_type(out, t);
         }
-        Kind::Let => at,
-        Kind::Check => at,
-        Kind::Contract => at,
-        Kind::Unknown => at,
+        Kind::Op(_) | Kind::Let | Kind::Check | Kind::Contract | Kind::Unknown => {}
     }
 }
 
@@ -75,44 +65,26 @@ fn opens(k: Kind) -> bool
     1 <= sheet::arity(k)
 }
 
-#[tactic(auto, using(text::proofs::TextLaws::append_none), unfolding(listing::specs::Listing::opening))]
-fn put_opening(out: &mut [u8], at: usize, k: Kind) -> usize
-    ensures { Appends (text.opening k) out.old out.new at result }
+#[tactic(auto, unfolding(listing::specs::Listing::opening))]
+fn opening(k: Kind) -> &'static [u8]
+    ensures { result.now ≡ text.opening k }
 {
-    if opens(k) {
-        text::put(out, at, b"(")
-    } else {
-        at
+    if opens(k) { b"(" } else { b"" }
+}
+
+fn put_closings<const N: usize>(out: &mut ArrayVec<u8, N>, n: u16)
+    ensures { Appends N (replicate n 41) out.old.items out.new.items }
+{
+    for _ in 0..n {
+        text::put(out, b")");
     }
 }
 
-fn put_closings(out: &mut [u8], at: usize, n: u16) -> usize
-    ensures { Appends (replicate n 41) out.old out.new at result }
-{
-    let mut end = at;
-    let mut i: u16 = 0;
-    while i < n {
-        end = text::put(out, end, b")");
-        i += 1;
-    }
-    end
-}
-
-// One expression more closes just before node `past`.
-fn close(table: &mut [u16], past: u16)
-    requires past_nonzero { (0 < past) × (past ≤ length table.old) }
-    requires past_bound { get_or table.old (past - 1) 0 < 65535 }
-    ensures { table.new ≡ set table.old (past - 1) (get_or table.old (past - 1) 0 + 1) }
-{
-    let last = past as usize - 1;
-    table[last] += 1;
-}
-
-// A table to count in.
+// A table to count in; written in place, it would stand whole in every goal.
 fn zeros() -> [u16; Sheet::NODES]
     ensures { result ≡ replicate max_nodes 0 }
 {
-    [0u16; Sheet::NODES]
+    [0; Sheet::NODES]
 }
 
 // How many expressions close after each node.
@@ -121,97 +93,85 @@ fn closings(s: &[u8], ends: &[u16; Sheet::NODES]) -> [u16; Sheet::NODES]
     requires ends { bytes.Ends s.now ends.now }
     ensures { (length result ≡ max_nodes) × text.Closings s.now result }
 {
-    let n = sheet::nodes(s);
     let mut table = zeros();
-    let mut a = 0;
-    while a < n {
+    for a in 0..sheet::nodes(s) {
         if opens(sheet::kind_at(s, Node(a as u16))) {
-            close(&mut table, ends[a]);
+            table[ends[a] as usize - 1] += 1;
         }
-        a += 1;
     }
     table
 }
 
 // The text.
 
-fn put_node(s: &[u8], i: Node, closings: u16, out: &mut [u8], at: usize) -> usize
-    ensures { Appends (text.node_text (bytes.kind_at s.now i.0) (bytes.argument s.now i.0) closings) out.old out.new at result }
+#[tactic(auto, using(text::proofs::TextLaws::append_then), unfolding(listing::specs::Listing::node_text))]
+fn put_node<const N: usize>(out: &mut ArrayVec<u8, N>, k: Kind, a: u32, closings: u16)
+    ensures { Appends N (text.node_text k a closings) out.old.items out.new.items }
 {
-    let k = sheet::kind_at(s, i);
-    let at = text::put(out, at, b" ");
-    let at = put_opening(out, at, k);
-    let at = listing::put_name(out, at, k);
-    let at = put_carried(out, at, k, sheet::argument(s, i));
-    put_closings(out, at, closings)
+    text::put(out, b" ");
+    text::put(out, opening(k));
+    text::put(out, listing::name(k));
+    put_carried(out, k, a);
+    put_closings(out, closings);
 }
 
-fn put_nodes(s: &[u8], table: &[u16], out: &mut [u8], at: usize) -> usize
-    requires s_bound { bytes.nodes s.now ≤ max_nodes }
-    requires max_nodes_in_bounds { max_nodes ≤ length table.now }
-    requires closings { text.Closings s.now table.now }
-    ensures { Appends (joined (text.node_at s.now) (bytes.nodes s.now)) out.old out.new at result }
-{
-    let n = sheet::nodes(s);
-    let mut end = at;
-    let mut i = 0;
-    while i < n {
-        end = put_node(s, Node(i as u16), table[i], out, end);
-        i += 1;
-    }
-    end
-}
-
-fn put_columns(s: &[u8], out: &mut [u8], at: usize) -> usize
-    ensures { Appends (joined (text.column_at s.now) (bytes.columns s.now)) out.old out.new at result }
-{
-    let n = sheet::byte(s, 3);
-    let mut end = at;
-    let mut c: u8 = 0;
-    while c < n {
-        end = text::put(out, end, b" ");
-        end = words::put_type(out, end, sheet::column_type(s, Column(c as u16)));
-        c += 1;
-    }
-    end
-}
-
-fn put_listing(s: &[u8], out: &mut [u8]) -> usize
+#[tactic(auto, using(text::proofs::TextLaws::append_start, text::proofs::TextLaws::append_next), unfolding(listing::specs::Listing::node_at))]
+fn put_nodes<const N: usize>(out: &mut ArrayVec<u8, N>, s: &[u8])
     requires { Formed s.now }
-    ensures { Appends (text.listing s.now) out.old out.new 0 result }
+    ensures { Appends N (joined (text.node_at s.now) (bytes.nodes s.now)) out.old.items out.new.items }
 {
     let mut ends = Sheet::fresh();
     sheet::fill_ends(s, &mut ends);
     let table = closings(s, &ends);
-    let at = text::put(out, 0, b"sheet");
-    let at = put_columns(s, out, at);
-    put_nodes(s, &table, out, at)
+    for i in 0..sheet::nodes(s) {
+        let node = Node(i as u16);
+        put_node(
+            out,
+            sheet::kind_at(s, node),
+            sheet::argument(s, node),
+            table[i],
+        );
+    }
+}
+
+#[tactic(auto, using(text::proofs::TextLaws::append_start))]
+fn put_columns<const N: usize>(out: &mut ArrayVec<u8, N>, s: &[u8])
+    ensures { Appends N (joined (text.column_at s.now) (bytes.columns s.now)) out.old.items out.new.items }
+{
+    for c in 0..sheet::byte(s, 3) {
+        text::put(out, b" ");
+        words::put_type(out, sheet::column_type(s, Column(c as u16)));
+    }
+}
+
+// The listing of a sheet that passes rules 1 to 6, or the refusal.
+pub fn listing(s: &[u8]) -> Result<ArrayVec<u8, TEXT>, Refusal>
+    ensures form { told result ≡ form s.now }
+    ensures text { IfOk result (λ out. out.items ≡ text.listing s.now) }
+{
+    sheet::form(s)?;
+    let mut out = ArrayVec::new();
+    text::put(&mut out, b"sheet");
+    put_columns(&mut out, s);
+    put_nodes(&mut out, s);
+    Ok(out)
 }
 
 // Whether a text is the listing of a sheet that passes rules 1 to 6.
+#[tactic(auto, unfolding(listing::specs::Answers::lists, sheet::specs::Ruling::passes))]
 pub fn lists(s: &[u8], text: &[u8]) -> bool
     ensures { result ≡ lists s.now text.now }
 {
-    if let Judged::Refused(_) = sheet::form(s) {
-        return false;
+    match listing(s) {
+        Ok(own) => own.as_slice() == text,
+        Err(_) => false,
     }
-    let mut own = Listed::text();
-    let n = put_listing(s, &mut own);
-    text::same(&own[..n], text)
 }
 
 // The writer.
-pub fn write(s: &[u8], room: &mut [u8]) -> Listed
+pub fn write(s: &[u8], room: &mut [u8]) -> Result<usize, Refusal>
     ensures { Answers (writer_rules s.now (length room.old)) (text.listing s.now) room.old room.new result }
 {
-    if let Judged::Refused(r) = sheet::form(s) {
-        return Listed::Refused(r);
-    }
-    let mut own = Listed::text();
-    let n = put_listing(s, &mut own);
-    if room.len() < n {
-        return Listed::Refused(Refusal::Lent(Lent::Room));
-    }
-    text::put(room, 0, &own[..n]);
-    Listed::Length(n)
+    let own = listing(s)?;
+    listing::answer(own.as_slice(), room)
 }

@@ -1,11 +1,6 @@
 -- A loop over the nodes, which counts in the table where each expression closes.
-use Rattle.std.proofs.Common.{◌-◌}
-use Rattle.sheet.specs.Bytes.{nodes}
 use Rattle.writer.proofs.ClosingLaws.{Counted}
 use Rattle.writer.proofs.closings.Given as goal
 
 abbrev pub invariant-loop-a : goal.invariant-loop-a
 invariant-loop-a l = Counted l.s l.a l.table
-
-abbrev pub decreases-loop-a : goal.decreases-loop-a
-decreases-loop-a l = nodes l.s - l.a

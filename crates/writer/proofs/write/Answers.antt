@@ -1,21 +1,14 @@
--- `writer::write` meets its contract: the form's refusal, the room's, or the listing in the room.
-use Rattle.std.proofs.Common.{sym, arith}
-use Rattle.sheet.proofs.FormLaws.{form_iff}
-use Rattle.writer.proofs.WriterLaws.{write_refused, write_short, write_done}
+-- The form's refusal, or the answer by the room.
+use Rattle.std.proofs.Common.{◌≡◌, Err, rules}
+use Rattle.listing.specs.Answers.{writer_rules}
+use Rattle.listing.proofs.RoomLaws.{answer_first, answer_last}
 use Rattle.writer.proofs.write.Goals as goal
 
-pub returns-in-Refused : goal.returns-in-Refused
-returns-in-Refused c = write_refused _ _ _ c.in-Refused.ensures
-
-pub put_listing-n-requires : goal.put_listing-n-requires
-put_listing-n-requires c = (form_iff _).0 (sym c.in_default.ensures)
-
-pub returns-then-room-n : goal.returns-then-room-n
-returns-then-room-n c =
-    write_short _ _ _ _ (λ at. omega (arith, c.type_inv.s at)) c.in_default.ensures c.text-own.ensures c.put_listing-n.ensures _
-    c.if-room-n.true
+pub returns-in_err-own : goal.returns-in_err-own
+unfolding writer_rules
+returns-in_err-own c =
+    let e : c.from_residual.result ≡ Err c.in_err-own.field-0.0 = search rules in rw e (answer_first _ c.in_err-own.ensures.form)
 
 pub returns : goal.returns
-returns c =
-    write_done _ _ _ _ (λ at. omega (arith, c.type_inv.s at)) c.in_default.ensures c.text-own.ensures c.put_listing-n.ensures _ _ _
-    c.if-room-n.false c.put.ensures
+unfolding writer_rules
+returns c = answer_last _ c.in_ok-own.ensures.form (rw (c.as_slice.ensures.value, c.in_ok-own.ensures.text) at c.answer.ensures)
