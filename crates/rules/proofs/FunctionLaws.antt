@@ -1,5 +1,4 @@
--- What functions' proofs cite: the node that a VAR names, what a refusal says of Check, and the table of how many nodes stand above each while it
--- is filled.
+-- What functions' proofs cite: what a refusal says of Check, and the table of how many nodes stand above each while it is filled.
 use Prim.Native.Nat.{ℕ, ◌<◌}
 use mathlib.Core.Path.{◌≡◌}
 use mathlib.Core.Bool.{Bool, true}
@@ -16,13 +15,6 @@ use Rattle.sheet.specs.declared.Sheet.{Sheet}
 use Rattle.rules.specs.Scope.{over}
 use Rattle.rules.specs.Check.{Scoped, rules, check}
 use Rattle.rules.proofs.GuardLaws.{scoped-is}
-
--- what is read as the node that a VAR names is that node
-pub binder_read : (s : List ℕ) → Formed s → Scoped s → (i b : ℕ) → i < nodes s → is_var (kind_at s i) ≡ true → (argument s i < 65536 → b ≡ argument s i)
-    → (b ≡ argument s i) × (argument s i < nodes s)
-binder_read s f sc i b h v r =
-    let n : argument s i < nodes s = ((scoped-is s (argument s i) i).0 (sc i h v)).0 in
-    (r (omega (arith, f.few)), n)
 
 -- a refusal by the rules, handed on, is Check's answer
 pub turned_away : (s : List ℕ) (x : Refusal) (r : Result Sheet Refusal) → IsErrAnd r (λ y. y ≡ x) → refused (number_of x) (place_of x) ≡ rules s → said r ≡ check s

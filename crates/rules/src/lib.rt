@@ -336,8 +336,15 @@ struct ScopedTree<'a> {
 }
 
 impl<'a> ScopedTree<'a> {
+    // The node that a VAR names.
+    fn binder(self, i: Node) -> Node
+        ensures { i.0 < bytes.nodes self.entry.tree.s.now → bytes.is_var (bytes.kind_at self.entry.tree.s.now i.0) ≡ true → (result.0 ≡ bytes.argument self.entry.tree.s.now i.0) × (result.0 < bytes.nodes self.entry.tree.s.now) }
+    {
+        sheet::binder(self.tree.s, i)
+    }
+
     // The type of node i, by the types of the nodes that it goes by.
-    #[tactic(auto, unfolding(crate::specs::Types::type_by, sheet::specs::Bytes::arity))]
+    #[tactic(auto, unfolding(crate::specs::Types::type_by, sheet::specs::Bytes::arity, sheet::specs::Bytes::is_var))]
     fn type_by(self, table: &[ValueType; Sheet::NODES], i: Node) -> ValueType
         requires i_bound { i.0 < bytes.nodes self.tree.s.now }
         ensures { result ≡ types.type_rule self.entry.tree.s.now i.0 (types.type_in table.now) }
@@ -347,7 +354,7 @@ impl<'a> ScopedTree<'a> {
         match tree.kind(i) {
             Kind::Const(t) | Kind::Fby(t) | Kind::Rec(t) => t,
             Kind::Input => sheet::column_type(s, sheet::input_column(s, i)),
-            Kind::Var => tree.named_type(table, sheet::binder(s, i)),
+            Kind::Var => tree.named_type(table, self.binder(i)),
             Kind::Op(o) => operator_type(o, tree.operand_type(table, i, 1)),
             Kind::Let | Kind::Check | Kind::Contract => tree.operand_type(table, i, 1),
             Kind::Unknown => ValueType::Bool,
@@ -380,7 +387,7 @@ impl<'a> ScopedTree<'a> {
         if !is_var(tree.kind(i)) {
             return false;
         }
-        let b = sheet::binder(tree.s, i);
+        let b = self.binder(i);
         if !is_rec(tree.kind(b)) {
             return false;
         }
