@@ -7,6 +7,7 @@ use mathlib.Core.Bool.{true, not}
 use mathlib.Core.List.{List}
 use native.Mathlib.Numerals.{add-one}
 use native.Mathlib.Omega.{arith}
+use Rattle.std.proofs.Common.{Result, Ok, Err}
 use lib.IntN.{ℤ, pos}
 use lib.ListN.{length, get_or}
 use lib.Seq.{ext_get_or}
@@ -16,8 +17,6 @@ use Rattle.sheet.specs.Ruling.{Ruling, passed, refused, told, at_end, accepted, 
 use Rattle.sheet.specs.Bytes.{nodes, columns}
 use Rattle.sheet.specs.Form.{Formed}
 use Rattle.sheet.specs.declared.Refusal.{Refusal}
-use Rattle.sheet.specs.declared.Judged.{Judged}
-use Rattle.sheet.specs.declared.Judged.TheVariants.{Passed, Refused as Turned}
 use Rattle.sheet.proofs.RulingLaws.{answer-accepted, one_answer}
 use Rattle.rules.specs.Types.{mistyped}
 use Rattle.rules.specs.Slots.{slots}
@@ -51,32 +50,32 @@ meaning z = meaning_one z.formed (scoped_of z) (needs-end z)
 
 -- ---- House order and Start: a refusal answers its number and place and changes no lent memory; else the slice holds what it is to hold
 
-module _ {s old : List ℕ} {r : Judged} {new : List ℕ} (k : HouseOrder s old r new) where
+module _ {s old : List ℕ} {r : Result (Unit {0}) Refusal} {new : List ℕ} (k : HouseOrder s old r new) where
   pub refused-house : (number place : ℕ) → house_rules s (length old) ≡ refused number place → (told r ≡ refused number place) × (new ≡ old)
   unfolding at_end
   refused-house number place e = (k.answer ∙ e, rw e at k.order)
 
-  pub no_house : (x : Refusal) → r ≡ Turned x → new ≡ old
+  pub no_house : (x : Refusal) → r ≡ Err x → new ≡ old
   no_house x e = (refused-house (number_of x) (place_of x) (sym k.answer ∙ rw e)).1
 
-  pub house_given : Sound s → length old ≡ nodes s → (r ≡ Passed) × (new ≡ house_order s) × RightOrder s new
+  pub house_given : Sound s → length old ≡ nodes s → (r ≡ Ok tt) × (new ≡ house_order s) × RightOrder s new
   unfolding at_end
   house_given z l =
       let p = (house_exactly s (length old)).1 (z, l) in
       let e : new ≡ house_order s = rw p at k.order in
-      (one_answer r Passed (k.answer ∙ p), e, rw e (house_right z))
+      (one_answer r (Ok tt) (k.answer ∙ p), e, rw e (house_right z))
 
-module _ {s : List ℕ} {old : List ℤ} {r : Judged} {new : List ℤ} (k : Start s old r new) where
+module _ {s : List ℕ} {old : List ℤ} {r : Result (Unit {0}) Refusal} {new : List ℤ} (k : Start s old r new) where
   pub refused-start : (number place : ℕ) → start_rules s (length old) ≡ refused number place → (told r ≡ refused number place) × (new ≡ old)
   unfolding at_end
   refused-start number place e = (k.answer ∙ e, rw e at k.cells)
 
-  pub no_start : (x : Refusal) → r ≡ Turned x → new ≡ old
+  pub no_start : (x : Refusal) → r ≡ Err x → new ≡ old
   no_start x e = (refused-start (number_of x) (place_of x) (sym k.answer ∙ rw e)).1
 
-  pub start_given : Sound s → length old ≡ slots s → (r ≡ Passed) × (new ≡ start_cells s)
+  pub start_given : Sound s → length old ≡ slots s → (r ≡ Ok tt) × (new ≡ start_cells s)
   unfolding at_end
-  start_given z l = let p = (start_exactly s (length old)).1 (z, l) in (one_answer r Passed (k.answer ∙ p), rw p at k.cells)
+  start_given z l = let p = (start_exactly s (length old)).1 (z, l) in (one_answer r (Ok tt) (k.answer ∙ p), rw p at k.cells)
 
 -- ---- Tick, from any cells
 
@@ -156,7 +155,7 @@ pub record Calls (s : List ℕ) (T : ℕ) (rows : ℕ → List ℤ) (orders : �
   -- Start was lent S cells, whatever they held, answered, and left the cells of tick 0
   pub old : List ℤ
   pub enough : length old ≡ slots s
-  pub judged : Judged
+  pub judged : Result (Unit {0}) Refusal
   pub started : Start s old judged (cells 0)
   -- Tick was lent the cells as they were left, answered r t, and left the next cells and the values
   pub ticked : (t : ℕ) → t < T → Tick s (rows t) (cells t) (orders t) (lent t) (r t) (cells (suc t)) (values t)

@@ -5,11 +5,12 @@ use mathlib.Core.List.{List}
 use native.Mathlib.Omega.{arith}
 use lib.IntN.{ℤ}
 use lib.ListN.{length}
-use Rattle.sheet.specs.declared.Judged.{Judged}
-use Rattle.sheet.proofs.RulingLaws.{one_refusal, one_answer}
-use Rattle.rules.specs.Check.{check, said}
-use Rattle.rules.specs.declared.Checked.{Checked}
-use Rattle.rules.proofs.CheckLaws.{one_checked}
+use Rattle.std.proofs.Common.{Result}
+use Rattle.sheet.specs.Ruling.{said}
+use Rattle.sheet.specs.declared.Sheet.{Sheet}
+use Rattle.sheet.specs.declared.Refusal.{Refusal}
+use Rattle.sheet.proofs.RulingLaws.{one_refusal, one_said, one_answer}
+use Rattle.rules.specs.Check.{check}
 use Rattle.order.specs.Orders.{HouseOrder}
 use Rattle.engine.specs.Rows.{row_at}
 use Rattle.engine.specs.Operations.{Start, tick_rules, said_tick, Tick, run_rules, said_run, Run}
@@ -36,13 +37,13 @@ one_ran (NotRun a) (NotRun b) e = ap NotRun (one_refusal a b (cc) (cc))
 
 -- ---- the operations
 
-pub one_check : (s : List ℕ) (r r' : Checked) → said r ≡ check s → said r' ≡ check s → r ≡ r'
-one_check s r r' k k' = one_checked r r' (k ∙ sym k')
+pub one_check : (s : List ℕ) (r r' : Result Sheet Refusal) → said r ≡ check s → said r' ≡ check s → r ≡ r'
+one_check s r r' k k' = one_said r r' (k ∙ sym k')
 
-pub one_house : {s old : List ℕ} {r r' : Judged} {new new' : List ℕ} → HouseOrder s old r new → HouseOrder s old r' new' → (r ≡ r') × (new ≡ new')
+pub one_house : {s old : List ℕ} {r r' : Result (Unit {0}) Refusal} {new new' : List ℕ} → HouseOrder s old r new → HouseOrder s old r' new' → (r ≡ r') × (new ≡ new')
 one_house {r = r} {r' = r'} k k' = (one_answer r r' (k.answer ∙ sym k'.answer), k.order ∙ sym k'.order)
 
-pub one_start : {s : List ℕ} {old : List ℤ} {r r' : Judged} {new new' : List ℤ} → Start s old r new → Start s old r' new' → (r ≡ r') × (new ≡ new')
+pub one_start : {s : List ℕ} {old : List ℤ} {r r' : Result (Unit {0}) Refusal} {new new' : List ℤ} → Start s old r new → Start s old r' new' → (r ≡ r') × (new ≡ new')
 one_start {r = r} {r' = r'} k k' = (one_answer r r' (k.answer ∙ sym k'.answer), k.cells ∙ sym k'.cells)
 
 pub one_tick : {s : List ℕ} {row cells : List ℤ} {order : List ℕ} {values : List ℤ} {r r' : Ticked} {c c' v v' : List ℤ} →

@@ -3,18 +3,18 @@ use Prim.Native.Nat.{ℕ, ◌≤◌}
 use mathlib.Core.Path.{◌≡◌, refl, sym, ap, ◌∙◌}
 use mathlib.Core.List.{List}
 use native.Mathlib.Omega.{arith}
+use Rattle.std.proofs.Common.{Ok, Err}
 use lib.IntN.{ℤ, pos}
 use lib.ListN.{length}
 use borrow.Author.Tests.{eq-eqb, ne_eqb}
 use Rattle.table.specs.Equations.{at}
 use Rattle.sheet.specs.Ceilings.{max_nodes, max_slots}
-use Rattle.sheet.specs.Ruling.{Ruling, passed, refused, rule, lent, ◌then◌, told, at_end, answer, accepted, turned, number_of, place_of}
+use Rattle.sheet.specs.Ruling.{Ruling, passed, refused, rule, lent, ◌then◌, at_end, answer, accepted, turned, number_of, place_of}
 use Rattle.sheet.specs.Bytes.{nodes}
 use Rattle.sheet.specs.declared.Sheet.{Sheet}
 use Rattle.sheet.specs.declared.Refusal.{Refusal}
 use Rattle.sheet.specs.declared.Refusal.TheVariants.{Lent as WrongLength}
 use Rattle.sheet.specs.declared.Lent.TheVariants.{Cells}
-use Rattle.sheet.specs.declared.Judged.TheVariants.{Passed, Refused}
 use Rattle.rules.specs.Slots.{slots}
 use Rattle.rules.specs.Check.{rules, sheet, check, Sound, Tables}
 use Rattle.rules.proofs.CheckLaws.{rules_exactly, check_exactly, check-turned}
@@ -68,19 +68,19 @@ module _ (s : List ℕ) (tests : Ruling) where
 -- ---- Start
 
 module _ (s : List ℕ) (old : List ℤ) where
-  pub start-refused : (r : Refusal) → turned (number_of r) (place_of r) ≡ check s → Start s old (Refused r) old
+  pub start-refused : (r : Refusal) → turned (number_of r) (place_of r) ≡ check s → Start s old (Err r) old
   unfolding start_rules at_end
   start-refused r e = let q = after_refusal s (lent Cells (length old) (slots s)) _ _ e in record { answer = rw q; cells = rw q }
 
   module _ {z : Sheet} (e : accepted z ≡ check s) where
-    pub start-lent : (length old ≡ z.slots → ⊥) → Start s old (Refused (WrongLength Cells)) old
+    pub start-lent : (length old ≡ z.slots → ⊥) → Start s old (Err (WrongLength Cells)) old
     unfolding start_rules rule at_end
     start-lent n =
         let q = after-rules s (lent Cells (length old) (slots s)) e in
         let b = ne_eqb (length old) (slots s) (λ x. n (x ∙ sym (slots_by s z e))) in
         record { answer = rw (q, b); cells = rw (q, b) }
 
-    pub start_done : length old ≡ z.slots → (new : List ℤ) → new ≡ start_cells s → Start s old Passed new
+    pub start_done : length old ≡ z.slots → (new : List ℤ) → new ≡ start_cells s → Start s old (Ok tt) new
     unfolding start_rules rule at_end
     start_done l new w =
         let q = after-rules s (lent Cells (length old) (slots s)) e in
@@ -99,7 +99,7 @@ module _ (s : List ℕ) (row cells : List ℤ) (order : List ℕ) (values : List
   tick_refused r e = refused_by r (after_refusal s _ _ _ e)
 
   module _ {z : Sheet} (e : accepted z ≡ check s) where
-    pub tick_turned : (r : Refusal) → told (Refused r) ≡ tick_tests s row cells order (length values) → Tick s row cells order values (NoTick r) cells values
+    pub tick_turned : (r : Refusal) → refused (number_of r) (place_of r) ≡ tick_tests s row cells order (length values) → Tick s row cells order values (NoTick r) cells values
     unfolding tick_rules
     tick_turned r t = refused_by r (after-rules s _ e ∙ sym t)
 
@@ -123,7 +123,7 @@ module _ (s : List ℕ) (rows old : List ℤ) where
   run_refused r e = ended_by r (after_refusal s _ _ _ e)
 
   module _ {z : Sheet} (e : accepted z ≡ check s) where
-    pub run_turned : (r : Refusal) → told (Refused r) ≡ run_tests s rows (length old) → Run s rows old (NoRun r) old
+    pub run_turned : (r : Refusal) → refused (number_of r) (place_of r) ≡ run_tests s rows (length old) → Run s rows old (NoRun r) old
     unfolding run_rules
     run_turned r t = ended_by r (after-rules s _ e ∙ sym t)
 

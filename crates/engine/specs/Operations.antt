@@ -1,11 +1,11 @@
 -- The operations Start, Tick and Run of document 01: their rules, their answers, and the end contents of every lent slice.
-use Rattle.std.specs.Prelude.{ℕ, ◌*◌, ◌≡◌, true, List, ltb, ℤ, pos, length}
+use Rattle.std.specs.Prelude.{ℕ, ◌*◌, ◌≡◌, true, List, ltb, ℤ, pos, length, Result}
 use Rattle.finite.specs.Lists.{gather}
 use Rattle.table.specs.Equations.{at}
 use Rattle.sheet.specs.Ruling.{Ruling, passed, refused, rule, lent, lent_place, ◌then◌, told, at_end, Outcome, accepted, turned, answer, number_of, place_of}
 use Rattle.sheet.specs.Bytes.{nodes, columns}
 use Rattle.sheet.specs.declared.Lent.TheVariants.{Rows, Cells, Order, Values, Outputs}
-use Rattle.sheet.specs.declared.Judged.{Judged}
+use Rattle.sheet.specs.declared.Refusal.{Refusal}
 use Rattle.rules.specs.Slots.{slots}
 use Rattle.rules.specs.Check.{rules}
 use Rattle.order.specs.Orders.{ordered}
@@ -28,7 +28,7 @@ max_rows = 256
 unfoldable pub start_rules : List ℕ → (size : ℕ) → Ruling
 start_rules s size = rules s then lent Cells size (slots s)
 
-pub record Start (s : List ℕ) (old : List ℤ) (r : Judged) (new : List ℤ) : Type 0 where
+pub record Start (s : List ℕ) (old : List ℤ) (r : Result (Unit {0}) Refusal) (new : List ℤ) : Type 0 where
   pub answer : told r ≡ start_rules s (length old)
   pub cells : new ≡ at_end (start_rules s (length old)) (start_cells s) old
 

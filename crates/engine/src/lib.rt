@@ -1,11 +1,11 @@
 // Start, Tick and Run over lent slices. Each takes the sheet's bytes and checks them itself: first all the tests, then the work.
 #![tactic(auto)]
 
-ghost use Rattle.std.specs.Prelude.{◌≡◌, true, cond, List, eqb, ℕ, ◌+◌, ◌*◌, ◌<◌, ◌≤◌, pos, length, get_or, set};
+ghost use Rattle.std.specs.Prelude.{◌≡◌, true, cond, List, ℕ, ◌+◌, ◌*◌, ◌<◌, ◌≤◌, pos, length, get_or, set, IfOk};
 ghost use Rattle.number.specs.Operators.{truth};
 ghost use Rattle.table.specs.Equations.{at, work};
 ghost use Rattle.sheet.specs.Ceilings.{max_nodes, max_slots};
-ghost use Rattle.sheet.specs.Ruling.{told};
+ghost use Rattle.sheet.specs.Ruling.{told, lent};
 ghost use Rattle.sheet.specs.Bytes.{nodes, columns, operand_by};
 ghost use Rattle.rules.specs.Slots.{slots, Slotted};
 ghost use Rattle.rules.specs.Check.{sheet};
@@ -19,8 +19,7 @@ ghost use Rattle.engine.specs.Rows as faults;
 ghost use Rattle.engine.specs.Operations as operations;
 
 use meaning::{Lowest, Verdict};
-use rules::Checked;
-use sheet::{Column, Judged, Kind, Lent, Node, Refusal, Sheet, Slot, ValueType};
+use sheet::{Column, Kind, Lent, Node, Refusal, Sheet, Slot, ValueType};
 
 // A tick's answer: the root's value, the count of nodes not PASS, and the lowest such node with its verdict, or that there is none.
 #[derive(Clone, Copy)]
@@ -359,67 +358,57 @@ fn answer_of(s: &[u8], ends: &[u16; Sheet::NODES], values: &[i32]) -> Answer
 fn faulty(t: ValueType, v: i32) -> bool
     ensures { result ≡ faults.faulty t v }
 {
-    match t {
-        ValueType::Bool => !matches!(v, 0 | 1),
-        ValueType::Int => false,
-    }
+    t == ValueType::Bool && !matches!(v, 0 | 1)
 }
 
 // Rule 13, over rows laid end to end.
 #[tactic(auto, using(crate::proofs::EachLaws::passed_all), unfolding(crate::specs::Rows::row_rule, crate::specs::Rows::bad_entry))]
-fn test_rows(s: &[u8], rows: &[i32]) -> Judged
+fn test_rows(s: &[u8], rows: &[i32]) -> Result<(), Refusal>
     requires { columns s.now ≡ 0 → length rows.now ≡ 0 }
     ensures { told result ≡ faults.row_rule s.now rows.now }
 {
-    let columns = sheet::byte(s, 3) as usize;
+    let columns = usize::from(sheet::byte(s, 3));
     for (at, v) in rows.iter().enumerate() {
         let c = Column((at % columns) as u16);
         if faulty(sheet::column_type(s, c), *v) {
-            return Judged::Refused(Refusal::Row(at));
+            return Err(Refusal::Row(at));
         }
     }
-    Judged::Passed
+    Ok(())
 }
 
 // Rule 14, slot by slot.
 #[tactic(auto, using(crate::proofs::EachLaws::passed_all), unfolding(crate::specs::Rows::cell_rule, rules::specs::Slots::slot, rules::specs::Slots::slots, finite::specs::Count::count))]
-fn test_cells(s: &[u8], cells: &[i32]) -> Judged
+fn test_cells(s: &[u8], cells: &[i32]) -> Result<(), Refusal>
     requires { nodes s.now ≤ max_nodes }
     ensures { told result ≡ faults.cell_rule s.now cells.now }
 {
-    let n = sheet::nodes(s) as u16;
     let mut j = 0;
-    for i in 0..n {
+    for i in 0..sheet::nodes(s) as u16 {
         if let Kind::Fby(t) = sheet::kind_at(s, Node(i)) {
             if faulty(t, cell(cells, Slot(j))) {
-                return Judged::Refused(Refusal::Cell(Slot(j)));
+                return Err(Refusal::Cell(Slot(j)));
             }
             j += 1;
         }
     }
-    Judged::Passed
+    Ok(())
 }
 
-// Rule 12 of a tick's slices, by their lengths.
-fn test_lent(z: Sheet, row: usize, cells: usize, order: usize, values: usize) -> Judged
-    ensures { (s : List ℕ) → z ≡ sheet s → told result ≡ operations.lent_rules s row cells order values }
+// Rule 12 of one slice, by its length.
+#[tactic(auto, unfolding(sheet::specs::Ruling::rule))]
+fn test_length(slice: Lent, size: usize, right: usize) -> Result<(), Refusal>
+    ensures result_value { told result ≡ lent slice size right }
+    ensures right { IfOk result (λ _. size ≡ right) }
 {
-    if row != z.columns {
-        return Judged::Refused(Refusal::Lent(Lent::Rows));
+    if size != right {
+        return Err(Refusal::Lent(slice));
     }
-    if cells != z.slots {
-        return Judged::Refused(Refusal::Lent(Lent::Cells));
-    }
-    if order != z.nodes {
-        return Judged::Refused(Refusal::Lent(Lent::Order));
-    }
-    if values != z.nodes {
-        return Judged::Refused(Refusal::Lent(Lent::Values));
-    }
-    Judged::Passed
+    Ok(())
 }
 
 // Rules 12 to 15 of a tick.
+#[tactic(auto, using(sheet::proofs::RulingLaws::then_refused, sheet::proofs::RulingLaws::then_next), unfolding(crate::specs::Operations::tick_tests, crate::specs::Operations::lent_rules))]
 fn test_tick(
     s: &[u8],
     z: Sheet,
@@ -428,53 +417,45 @@ fn test_tick(
     cells: &[i32],
     order: &[u16],
     values: usize,
-) -> Judged
+) -> Result<(), Refusal>
     requires given { Given s.now ends.now }
     requires z_value { z ≡ sheet s.now }
     ensures { told result ≡ operations.tick_tests s.now row.now cells.now order.now values }
 {
-    if let Judged::Refused(r) = test_lent(z, row.len(), cells.len(), order.len(), values) {
-        return Judged::Refused(r);
-    }
-    if let Judged::Refused(r) = test_rows(s, row) {
-        return Judged::Refused(r);
-    }
-    if let Judged::Refused(r) = test_cells(s, cells) {
-        return Judged::Refused(r);
-    }
+    test_length(Lent::Rows, row.len(), z.columns)?;
+    test_length(Lent::Cells, cells.len(), z.slots)?;
+    test_length(Lent::Order, order.len(), z.nodes)?;
+    test_length(Lent::Values, values, z.nodes)?;
+    test_rows(s, row)?;
+    test_cells(s, cells)?;
     order::test_order(s, ends, order)
 }
 
 // Rules 12 and 13 of a run.
-fn test_run(s: &[u8], rows: &[i32], ticks: usize) -> Judged
+fn test_run(s: &[u8], rows: &[i32], ticks: usize) -> Result<(), Refusal>
     ensures { told result ≡ operations.run_tests s.now rows.now ticks }
 {
-    let columns = sheet::byte(s, 3) as usize;
+    let columns = usize::from(sheet::byte(s, 3));
     if ticks.checked_mul(columns) != Some(rows.len()) {
-        return Judged::Refused(Refusal::Lent(Lent::Rows));
+        return Err(Refusal::Lent(Lent::Rows));
     }
     if RunState::ROWS < ticks {
-        return Judged::Refused(Refusal::Lent(Lent::Outputs));
+        return Err(Refusal::Lent(Lent::Outputs));
     }
     test_rows(s, rows)
 }
 
 // START
 
-pub fn start(s: &[u8], cells: &mut [i32]) -> Judged
+pub fn start(s: &[u8], cells: &mut [i32]) -> Result<(), Refusal>
     ensures { operations.Start s.now cells.old result cells.new }
 {
-    let checked = rules::check(s);
-    match checked {
-        Checked::Refused(r) => Judged::Refused(r),
-        Checked::Accepted(z) => {
-            if cells.len() != z.slots {
-                return Judged::Refused(Refusal::Lent(Lent::Cells));
-            }
-            fill_start(s, cells);
-            Judged::Passed
-        }
+    let z = rules::check(s)?;
+    if cells.len() != z.slots {
+        return Err(Refusal::Lent(Lent::Cells));
     }
+    fill_start(s, cells);
+    Ok(())
 }
 
 // TICK
@@ -486,9 +467,9 @@ pub fn tick(s: &[u8], row: &[i32], cells: &mut [i32], order: &[u16], values: &mu
     let mut slotted = Sheet::fresh();
     let checked = rules::judge(s, &mut ends, &mut slotted);
     match checked {
-        Checked::Refused(r) => Ticked::Refused(r),
-        Checked::Accepted(z) => {
-            if let Judged::Refused(r) = test_tick(s, z, &ends, row, &*cells, order, values.len()) {
+        Err(r) => Ticked::Refused(r),
+        Ok(z) => {
+            if let Err(r) = test_tick(s, z, &ends, row, &*cells, order, values.len()) {
                 return Ticked::Refused(r);
             }
             step(s, &ends, &slotted, row, order, cells, values);
@@ -540,9 +521,9 @@ pub fn run(s: &[u8], rows: &[i32], outputs: &mut [i32]) -> Ran
     let mut slotted = Sheet::fresh();
     let checked = rules::judge(s, &mut ends, &mut slotted);
     match checked {
-        Checked::Refused(r) => Ran::Refused(r),
-        Checked::Accepted(z) => {
-            if let Judged::Refused(r) = test_run(s, rows, outputs.len()) {
+        Err(r) => Ran::Refused(r),
+        Ok(z) => {
+            if let Err(r) = test_run(s, rows, outputs.len()) {
                 return Ran::Refused(r);
             }
             let mut order = Sheet::fresh();
