@@ -1,5 +1,6 @@
 -- Laws of the lines: how long they are, and that a refusal's is printed.
 use Prim.Native.Nat.{ℕ, ◌≤◌, ◌<◌}
+use Rattle.std.proofs.Common.{Option}
 use mathlib.Core.Path.{◌≡◌}
 use mathlib.Core.List.{List, ◌++◌}
 use native.Mathlib.Omega.{arith}
@@ -10,12 +11,12 @@ use mir.Val.{SFits}
 use Rattle.text.specs.Text.{space, decimal, Puts, Prints}
 use Rattle.text.proofs.TextLaws.{is_word, prints, decimal-length, integer-length}
 use Rattle.sheet.specs.Ruling.{Ruling, refused}
+use Rattle.sheet.specs.declared.Node.{Node}
 use Rattle.sheet.specs.declared.ValueType.{ValueType}
 use Rattle.words.specs.Words.{refused_line}
 use Rattle.words.proofs.WordLaws.{type_length}
 use Rattle.meaning.specs.declared.Verdict.{Verdict}
 use Rattle.meaning.specs.declared.Verdict.TheVariants.{Pass, Fail, Caller, Body}
-use Rattle.meaning.specs.declared.Lowest.{Lowest}
 use Rattle.console.specs.Sheetrun.{ok_line, verdict_word, lowest_words, tick_line, PrintedBy, max_output}
 use Rattle.console.specs.Printing.{max_line}
 
@@ -36,7 +37,7 @@ verdict-length Body = omega arith
 pub failing-length : (i : ℕ) (v : Verdict) → i < 65536 → length (verdict_word v ++ (space ++ decimal i)) ≤ 12
 failing-length i v l = simp length-append (omega (arith, decimal-length 4 i (omega arith), verdict-length v))
 
-pub tick_line-length : (t : ℕ) (v : ℤ) (w : Lowest) → t < 1000 → SFits w32 v → length (lowest_words w) ≤ 12 → length (tick_line t v w) ≤ max_line
+pub tick_line-length : (t : ℕ) (v : ℤ) (w : Option (Node × Verdict)) → t < 1000 → SFits w32 v → length (lowest_words w) ≤ 12 → length (tick_line t v w) ≤ max_line
 unfolding tick_line
 tick_line-length t v w l f h = simp length-append (omega (arith, decimal-length 2 t (omega arith), integer-length v f))
 

@@ -1,10 +1,11 @@
 -- Document 01, "The printing program": from the bytes of standard input to the bytes that sheetrun prints.
-use Rattle.std.specs.Prelude.{ℕ, zero, suc, ◌+◌, ◌*◌, ◌/◌, ◌%◌, ◌≡◌, Bool, true, not, List, [], ◌∷◌, ◌++◌, ltb, eqb, ℤ, length, take, drop}
+use Rattle.std.specs.Prelude.{ℕ, zero, suc, ◌+◌, ◌*◌, ◌/◌, ◌%◌, ◌≡◌, Bool, true, not, List, [], ◌∷◌, ◌++◌, ltb, eqb, ℤ, length, take, drop, Option, Some, None}
 use Rattle.finite.specs.Lists.{gather, joined}
 use Rattle.number.specs.Word.{word, signed}
 use Rattle.text.specs.Text.{decimal, integer, space, feed}
 use Rattle.sheet.specs.Ruling.{Ruling, passed, refused, rule, ◌then◌}
 use Rattle.sheet.specs.Bytes.{byte, stated, nodes, columns}
+use Rattle.sheet.specs.declared.Node.{Node}
 use Rattle.sheet.specs.declared.ValueType.{ValueType}
 use Rattle.words.specs.Words.{type_word, refused_line}
 use Rattle.rules.specs.Types.{type_at}
@@ -14,8 +15,6 @@ use Rattle.meaning.specs.Equations.{Means}
 use Rattle.meaning.specs.Verdicts.{lowest_failing}
 use Rattle.meaning.specs.declared.Verdict.{Verdict}
 use Rattle.meaning.specs.declared.Verdict.TheVariants.{Pass, Fail, Caller, Body}
-use Rattle.meaning.specs.declared.Lowest.{Lowest}
-use Rattle.meaning.specs.declared.Lowest.TheVariants.{None, Failing}
 use Rattle.engine.specs.Rows.{row_rule, row_at}
 use Rattle.engine.specs.Operations.{max_rows}
 
@@ -79,12 +78,12 @@ verdict_word Caller = 99 ∷ 97 ∷ 108 ∷ 108 ∷ 101 ∷ 114 ∷ []
 verdict_word Body = 98 ∷ 111 ∷ 100 ∷ 121 ∷ []
 
 -- "pass, or verdict node for the lowest failing node"
-abbrev pub lowest_words : Lowest → List ℕ
+abbrev pub lowest_words : Option (Node × Verdict) → List ℕ
 lowest_words None = verdict_word Pass
-lowest_words (Failing i verdict) = verdict_word verdict ++ (space ++ decimal i.0)
+lowest_words (Some (i, verdict)) = verdict_word verdict ++ (space ++ decimal i.0)
 
 -- "per tick: tick value pass, or tick value verdict node"
-unfoldable pub tick_line : (t : ℕ) → (value : ℤ) → Lowest → List ℕ
+unfoldable pub tick_line : (t : ℕ) → (value : ℤ) → Option (Node × Verdict) → List ℕ
 tick_line t value w = decimal t ++ (space ++ (integer value ++ (space ++ (lowest_words w ++ feed))))
 
 -- the lines of the first T ticks, where X t i is node i's value at tick t

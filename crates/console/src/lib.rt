@@ -13,9 +13,9 @@ ghost use Rattle.console.specs.Sheetrun as printed;
 ghost use Rattle.console.specs.Printing.{AcceptedAs, max_ints, max_line};
 
 use engine::{Ran, RunState, Ticked};
-use meaning::{Lowest, Verdict};
+use meaning::Verdict;
 use rules::Checked;
-use sheet::{Lent, Refusal, Sheet};
+use sheet::{Lent, Node, Refusal, Sheet};
 
 // An input: how many of its first bytes are the sheet. The rest are rows.
 #[derive(Clone, Copy)]
@@ -97,12 +97,12 @@ fn put_verdict(out: &mut [u8], at: usize, v: Verdict) -> usize
     }
 }
 
-pub fn put_lowest(out: &mut [u8], at: usize, w: Lowest) -> usize
+pub fn put_lowest(out: &mut [u8], at: usize, w: Option<(Node, Verdict)>) -> usize
     ensures { Puts 12 (printed.lowest_words w) out.old out.new at result }
 {
     match w {
-        Lowest::None => text::put(out, at, b"pass"),
-        Lowest::Failing(i, v) => {
+        None => text::put(out, at, b"pass"),
+        Some((i, v)) => {
             let at = put_verdict(out, at, v);
             let at = text::put(out, at, b" ");
             text::put_decimal(out, at, i.0 as u64)
@@ -110,7 +110,7 @@ pub fn put_lowest(out: &mut [u8], at: usize, w: Lowest) -> usize
     }
 }
 
-fn put_tick(out: &mut [u8], at: usize, t: usize, value: i32, w: Lowest) -> usize
+fn put_tick(out: &mut [u8], at: usize, t: usize, value: i32, w: Option<(Node, Verdict)>) -> usize
     requires { t < 1000 }
     ensures { Puts max_line (printed.tick_line t value w) out.old out.new at result }
 {

@@ -1,15 +1,17 @@
 -- How an operation's tests and work come together in its contract: Check's answer gives the sheet's rules, the tests give the rest.
 use Prim.Native.Nat.{ℕ, ◌≤◌}
 use mathlib.Core.Path.{◌≡◌, refl, sym, ap, ◌∙◌}
+use mathlib.Core.Bool.{true}
 use mathlib.Core.List.{List}
 use native.Mathlib.Omega.{arith}
 use Rattle.std.proofs.Common.{Ok, Err}
 use lib.IntN.{ℤ, pos}
-use lib.ListN.{length}
+use lib.ListN.{length, take}
+use lib.Seq.{length-take-le}
 use borrow.Author.Tests.{eq-eqb, ne_eqb}
 use Rattle.table.specs.Equations.{at}
 use Rattle.sheet.specs.Ceilings.{max_nodes, max_slots}
-use Rattle.sheet.specs.Ruling.{Ruling, passed, refused, rule, lent, ◌then◌, at_end, answer, accepted, turned, number_of, place_of}
+use Rattle.sheet.specs.Ruling.{Ruling, passed, refused, passes, rule, lent, ◌then◌, at_end, answer, accepted, turned, number_of, place_of}
 use Rattle.sheet.specs.Bytes.{nodes}
 use Rattle.sheet.specs.declared.Sheet.{Sheet}
 use Rattle.sheet.specs.declared.Refusal.{Refusal}
@@ -38,6 +40,10 @@ module _ (s : List ℕ) (z : Sheet) (e : accepted z ≡ check s) where
   pub rules_by : rules s ≡ passed
   rules_by = (rules_exactly s).1 sound_by
 
+  pub passes_by : passes (rules s) ≡ true
+  unfolding passes
+  passes_by = rw rules_by
+
   pub given_by : {ends slotted : List ℕ} → (rules s ≡ passed → Tables s ends slotted) → Given s ends
   given_by t = record { sound = sound_by; ends = (t rules_by).ends }
 
@@ -54,6 +60,10 @@ module _ (s : List ℕ) (z : Sheet) (e : accepted z ≡ check s) where
 
   pub slots-few : z.slots ≤ max_slots
   slots-few = omega (arith, slots_by, sound_by.few)
+
+-- a part of a local array, from its start
+pub length_part : {A : Type 0} (xs : List A) (n max : ℕ) → n ≤ max → length xs ≡ max → length (take n xs) ≡ n
+length_part xs n max l e = length-take-le n xs (omega (arith, e))
 
 -- rules that follow those of the sheet
 module _ (s : List ℕ) (tests : Ruling) where

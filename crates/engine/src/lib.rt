@@ -1,24 +1,28 @@
 // Start, Tick and Run over lent slices. Each takes the sheet's bytes and checks them itself: first all the tests, then the work.
 #![tactic(auto)]
 
-ghost use Rattle.std.specs.Prelude.{◌≡◌, true, cond, List, ℕ, ◌+◌, ◌*◌, ◌<◌, ◌≤◌, pos, length, get_or, set, IfOk};
+ghost use Rattle.std.specs.Prelude.{◌≡◌, true, cond, List, ℕ, ◌+◌, ◌*◌, ◌<◌, ◌≤◌, ℤ, pos, length, get_or, IfOk};
+ghost use Rattle.finite.specs.Lists.{gather};
 ghost use Rattle.number.specs.Operators.{truth};
 ghost use Rattle.table.specs.Equations.{at, work};
 ghost use Rattle.sheet.specs.Ceilings.{max_nodes, max_slots};
-ghost use Rattle.sheet.specs.Ruling.{told, lent};
-ghost use Rattle.sheet.specs.Bytes.{nodes, columns, operand_by};
-ghost use Rattle.rules.specs.Slots.{slots, Slotted};
-ghost use Rattle.rules.specs.Check.{sheet};
-ghost use Rattle.order.specs.Needs.{Given};
+ghost use Rattle.sheet.specs.Ruling.{passes, told, lent};
+ghost use Rattle.sheet.specs.declared.Node.{Node};
+ghost use Rattle.sheet.specs.Bytes.{nodes, columns, kind_at, arity, operand, Ends};
+ghost use Rattle.rules.specs.Scope.{fby_at};
+ghost use Rattle.rules.specs.Slots.{slot, slots, Slotted};
+ghost use Rattle.rules.specs.Check.{rules, sheet};
+ghost use Rattle.order.specs.Needs.{needs, need_count, Given};
 ghost use Rattle.order.specs.Orders.{RightOrder};
 ghost use Rattle.meaning.specs.Equations as equations;
 ghost use Rattle.meaning.specs.Local.{sides, local_value};
 ghost use Rattle.meaning.specs.Cells.{start_cells, next_cells, held};
 ghost use Rattle.meaning.specs.Verdicts as verdicts;
+ghost use Rattle.engine.specs.Cells.{Gives};
 ghost use Rattle.engine.specs.Rows as faults;
 ghost use Rattle.engine.specs.Operations as operations;
 
-use meaning::{Lowest, Verdict};
+use meaning::Verdict;
 use sheet::{Column, Kind, Lent, Node, Refusal, Sheet, Slot, ValueType};
 
 // A tick's answer: the root's value, the count of nodes not PASS, and the lowest such node with its verdict, or that there is none.
@@ -26,7 +30,7 @@ use sheet::{Column, Kind, Lent, Node, Refusal, Sheet, Slot, ValueType};
 pub struct Answer {
     pub root: i32,
     pub failures: usize,
-    pub lowest: Lowest,
+    pub lowest: Option<(Node, Verdict)>,
 }
 
 #[derive(Clone, Copy)]
@@ -94,39 +98,22 @@ impl RunState {
 
 // Entries of the lent slices, 0 past the end: of the values by node, of the cells by slot, of the row by column.
 
-fn read(xs: &[i32], at: usize) -> i32
-    ensures { result ≡ get_or xs.now at (pos 0) }
-{
-    if at < xs.len() { xs[at] } else { 0 }
-}
-
 fn value_of(values: &[i32], i: Node) -> i32
     ensures { result ≡ get_or values.now i.0 (pos 0) }
 {
-    read(values, sheet::index(i))
+    values.get(sheet::index(i)).copied().unwrap_or(0)
 }
 
 fn cell(cells: &[i32], j: Slot) -> i32
     ensures { result ≡ get_or cells.now j.0 (pos 0) }
 {
-    read(cells, j.0 as usize)
+    cells.get(j.0 as usize).copied().unwrap_or(0)
 }
 
 fn input(row: &[i32], c: Column) -> i32
     ensures { result ≡ get_or row.now c.0 (pos 0) }
 {
-    read(row, c.0 as usize)
-}
-
-fn slot_of(slotted: &[u16], i: Node) -> Slot
-    ensures { result.0 ≡ get_or slotted.now i.0 0 }
-{
-    let at = sheet::index(i);
-    if at < slotted.len() {
-        Slot(slotted[at])
-    } else {
-        Slot(0)
-    }
+    row.get(c.0 as usize).copied().unwrap_or(0)
 }
 
 // A node's constant or first value.
@@ -136,69 +123,19 @@ fn literal(s: &[u8], i: Node) -> i32
     number::of_bits(sheet::argument(s, i))
 }
 
-// The work.
-
-// One node's value, from the row, the cells and the values of its needs.
-fn value(
-    s: &[u8],
-    ends: &[u16; Sheet::NODES],
-    slotted: &[u16; Sheet::NODES],
-    row: &[i32],
-    cells: &[i32],
-    values: &[i32],
-    i: Node,
-) -> i32
-    requires given { Given s.now ends.now }
-    requires slotted { Slotted s.now slotted.now }
-    requires i_bound { i.0 < nodes s.now }
-    ensures { result ≡ local_value s.now row.now (held s.now cells.now i.0) (at (pos 0) values.now) i.0 }
+// Each slot gets what is given for its FBY.
+fn fill<F: Fn(Node) -> i32>(s: &[u8], cells: &mut [i32], given: F)
+    requires s_bound { nodes s.now ≤ max_nodes }
+    requires cells_len { length cells.old ≡ slots s.now }
+    requires callable { (i : Node) → i.0 < nodes s.now → F.pre given i }
+    ensures { (f : ℕ → ℤ) → Gives s.now (F.post given) f → cells.new ≡ gather (fby_at s.now) f (nodes s.now) }
 {
-    let k = sheet::kind_at(s, i);
-    match k {
-        Kind::Const(_) => literal(s, i),
-        Kind::Input => input(row, sheet::input_column(s, i)),
-        Kind::Op(o) => {
-            let a = value_of(values, order::need(s, ends, i, 0));
-            let b = value_of(values, order::need(s, ends, i, 1));
-            let c = value_of(values, order::need(s, ends, i, 2));
-            number::apply(o, a, b, c)
+    let mut j = 0;
+    for i in 0..sheet::nodes(s) as u16 {
+        if rules::is_fby(sheet::kind_at(s, Node(i))) {
+            cells[j] = given(Node(i));
+            j += 1;
         }
-        Kind::Fby(_) => cell(cells, slot_of(slotted, i)),
-        Kind::Unknown => 0,
-        _ => value_of(values, order::need(s, ends, i, 0)),
-    }
-}
-
-fn put(values: &mut [i32], i: Node, v: i32)
-    ensures { values.new ≡ set values.old i.0 v }
-{
-    let at = sheet::index(i);
-    if at < values.len() {
-        values[at] = v;
-    }
-}
-
-// Every node's value, worked in a right order.
-fn work_nodes(
-    s: &[u8],
-    ends: &[u16; Sheet::NODES],
-    slotted: &[u16; Sheet::NODES],
-    row: &[i32],
-    cells: &[i32],
-    order: &[u16],
-    values: &mut [i32],
-)
-    requires given { Given s.now ends.now }
-    requires slotted { Slotted s.now slotted.now }
-    requires right_order { RightOrder s.now order.now }
-    ensures { values.new ≡ work (pos 0) (sides s.now row.now (held s.now cells.now)) order.now values.old }
-{
-    let mut p = 0;
-    while p < order.len() {
-        let i = Node(order[p]);
-        let v = value(s, ends, slotted, row, cells, &*values, i);
-        put(values, i, v);
-        p += 1;
     }
 }
 
@@ -208,148 +145,203 @@ fn fill_start(s: &[u8], cells: &mut [i32])
     requires cells_len { length cells.old ≡ slots s.now }
     ensures { cells.new ≡ start_cells s.now }
 {
-    let n = sheet::nodes(s) as u16;
-    let mut j = 0;
-    let mut i: u16 = 0;
-    while i < n {
-        if rules::is_fby(sheet::kind_at(s, Node(i))) {
-            cells[j] = literal(s, Node(i));
-            j += 1;
-        }
-        i += 1;
+    fill(s, cells, |i| literal(s, i));
+}
+
+// The work over an accepted sheet.
+
+// An accepted sheet, with the table of where each expression ends and the table of slots.
+#[derive(Clone, Copy)]
+struct Accepted<'a> {
+    s: &'a [u8],
+    ends: &'a [u16; Sheet::NODES],
+    slotted: &'a [u16; Sheet::NODES],
+    ghost accepted: { passes (rules s.now) ≡ true },
+    ghost ended: { Ends s.now ends.now },
+    ghost in_slots: { Slotted s.now slotted.now },
+}
+
+impl<'a> Accepted<'a> {
+    // How many nodes there are.
+    fn nodes(self) -> u16
+        ensures { result ≡ nodes self.entry.s.now }
+    {
+        sheet::nodes(self.s) as u16
     }
-}
 
-// Each slot gets its FBY's operand's value.
-fn store(s: &[u8], ends: &[u16; Sheet::NODES], values: &[i32], cells: &mut [i32])
-    requires given { Given s.now ends.now }
-    requires cells_len { length cells.old ≡ slots s.now }
-    ensures { cells.new ≡ next_cells s.now (at (pos 0) values.now) }
-{
-    let n = sheet::nodes(s) as u16;
-    let mut j = 0;
-    let mut i: u16 = 0;
-    while i < n {
-        if rules::is_fby(sheet::kind_at(s, Node(i))) {
-            cells[j] = value_of(values, sheet::operand(ends, Node(i), 0));
-            j += 1;
-        }
-        i += 1;
+    // The values of operand k and of need k of a node, k from 0.
+
+    fn operand(self, values: &[i32], i: Node, k: usize) -> i32
+        requires { i.0 < nodes self.s.now }
+        ensures { k < arity (kind_at self.entry.s.now i.0) → result ≡ at (pos 0) values.now (operand self.entry.s.now i.0 k) }
+    {
+        value_of(values, sheet::operand(self.ends, i, k))
     }
-}
 
-// One tick: all values first, then the cells.
-fn step(
-    s: &[u8],
-    ends: &[u16; Sheet::NODES],
-    slotted: &[u16; Sheet::NODES],
-    row: &[i32],
-    order: &[u16],
-    cells: &mut [i32],
-    values: &mut [i32],
-)
-    requires given { Given s.now ends.now }
-    requires slotted { Slotted s.now slotted.now }
-    requires right_order { RightOrder s.now order.now }
-    requires cells_len { length cells.old ≡ slots s.now }
-    requires values_len { length values.old ≡ nodes s.now }
-    ensures { operations.Worked s.now row.now cells.old cells.new values.new }
-{
-    work_nodes(s, ends, slotted, row, &*cells, order, values);
-    store(s, ends, &*values, cells);
-}
+    fn need(self, values: &[i32], i: Node, k: usize) -> i32
+        requires { i.0 < nodes self.s.now }
+        ensures { k < need_count (kind_at self.entry.s.now i.0) → result ≡ at (pos 0) values.now (get_or (needs self.entry.s.now i.0) k 0) }
+    {
+        value_of(values, order::need(self.s, self.ends, i, k))
+    }
 
-// The verdicts, once all values are there.
+    fn slot(self, i: Node) -> Slot
+        requires { i.0 < nodes self.s.now }
+        ensures { result.0 ≡ slot self.entry.s.now i.0 }
+    {
+        let slotted = self.slotted;
+        Slot(slotted.get(sheet::index(i)).copied().unwrap_or(0))
+    }
 
-// The truth of operand k of a node, k from 0, by the table of ends.
-fn operand_truth(ends: &[u16; Sheet::NODES], values: &[i32], i: Node, k: usize) -> bool
-    ensures { i.0 < max_nodes → result ≡ truth (at (pos 0) values.now (operand_by ends.now i.0 k)) }
-{
-    number::truth(value_of(values, sheet::operand(ends, i, k)))
-}
+    // One node's value, from the row, the cells and the values of its needs.
+    fn value(self, row: &[i32], cells: &[i32], values: &[i32], i: Node) -> i32
+        requires { i.0 < nodes self.s.now }
+        ensures { result ≡ local_value self.entry.s.now row.now (held self.entry.s.now cells.now i.0) (at (pos 0) values.now) i.0 }
+    {
+        match sheet::kind_at(self.s, i) {
+            Kind::Const(_) => literal(self.s, i),
+            Kind::Input => input(row, sheet::input_column(self.s, i)),
+            Kind::Op(o) => {
+                let a = self.need(values, i, 0);
+                let b = self.need(values, i, 1);
+                let c = self.need(values, i, 2);
+                number::apply(o, a, b, c)
+            }
+            Kind::Fby(_) => cell(cells, self.slot(i)),
+            Kind::Unknown => 0,
+            _ => self.need(values, i, 0),
+        }
+    }
 
-fn verdict_of(s: &[u8], ends: &[u16; Sheet::NODES], values: &[i32], i: Node) -> Verdict
-    requires given { Given s.now ends.now }
-    requires i_bound { i.0 < nodes s.now }
-    ensures { result ≡ verdicts.verdict s.now (at (pos 0) values.now) i.0 }
-{
-    let k = sheet::kind_at(s, i);
-    match k {
-        Kind::Check => {
-            if operand_truth(ends, values, i, 0) {
-                Verdict::Pass
-            } else {
-                Verdict::Fail
+    // Every node's value, worked in a right order.
+    fn work_nodes(self, row: &[i32], cells: &[i32], order: &[u16], values: &mut [i32])
+        requires right_order { RightOrder self.s.now order.now }
+        requires values_len { length values.old ≡ nodes self.s.now }
+        ensures { values.new ≡ work (pos 0) (sides self.entry.s.now row.now (held self.entry.s.now cells.now)) order.now values.old }
+    {
+        for at in order {
+            let i = Node(*at);
+            let value = self.value(row, cells, &*values, i);
+            values[sheet::index(i)] = value;
+        }
+    }
+
+    // Each slot gets its FBY's operand's value.
+    fn store(self, values: &[i32], cells: &mut [i32])
+        requires { length cells.old ≡ slots self.s.now }
+        ensures { cells.new ≡ next_cells self.entry.s.now (at (pos 0) values.now) }
+    {
+        fill(self.s, cells, |i| self.operand(values, i, 0));
+    }
+
+    // One tick: all values first, then the cells.
+    fn step(self, row: &[i32], order: &[u16], cells: &mut [i32], values: &mut [i32])
+        requires right_order { RightOrder self.s.now order.now }
+        requires cells_len { length cells.old ≡ slots self.s.now }
+        requires values_len { length values.old ≡ nodes self.s.now }
+        ensures { operations.Worked self.entry.s.now row.now cells.old cells.new values.new }
+    {
+        self.work_nodes(row, &*cells, order, values);
+        self.store(&*values, cells);
+    }
+
+    // The verdicts, once all values are there.
+
+    fn operand_truth(self, values: &[i32], i: Node, k: usize) -> bool
+        requires { i.0 < nodes self.s.now }
+        ensures { k < arity (kind_at self.entry.s.now i.0) → result ≡ truth (at (pos 0) values.now (operand self.entry.s.now i.0 k)) }
+    {
+        number::truth(self.operand(values, i, k))
+    }
+
+    fn verdict_of(self, values: &[i32], i: Node) -> Verdict
+        requires { i.0 < nodes self.s.now }
+        ensures { result ≡ verdicts.verdict self.entry.s.now (at (pos 0) values.now) i.0 }
+    {
+        match sheet::kind_at(self.s, i) {
+            Kind::Check => {
+                if self.operand_truth(values, i, 0) {
+                    Verdict::Pass
+                } else {
+                    Verdict::Fail
+                }
+            }
+            Kind::Contract => {
+                if !self.operand_truth(values, i, 0) {
+                    Verdict::Caller
+                } else if self.operand_truth(values, i, 2) {
+                    Verdict::Pass
+                } else {
+                    Verdict::Body
+                }
+            }
+            _ => Verdict::Pass,
+        }
+    }
+
+    fn failures(self, values: &[i32]) -> usize
+        ensures { result ≡ verdicts.failures self.entry.s.now (at (pos 0) values.now) }
+    {
+        let mut count = 0;
+        for i in 0..self.nodes() {
+            if self.verdict_of(values, Node(i)) != Verdict::Pass {
+                count += 1;
             }
         }
-        Kind::Contract => {
-            if !operand_truth(ends, values, i, 0) {
-                return Verdict::Caller;
+        count
+    }
+
+    fn lowest(self, values: &[i32]) -> Option<(Node, Verdict)>
+        ensures { result ≡ verdicts.lowest_failing self.entry.s.now (at (pos 0) values.now) }
+    {
+        for i in 0..self.nodes() {
+            let verdict = self.verdict_of(values, Node(i));
+            if verdict != Verdict::Pass {
+                return Some((Node(i), verdict));
             }
-            if operand_truth(ends, values, i, 2) {
-                Verdict::Pass
-            } else {
-                Verdict::Body
-            }
         }
-        _ => Verdict::Pass,
+        None
     }
-}
 
-fn is_pass(v: Verdict) -> bool
-    ensures { result ≡ verdicts.is_pass v }
-{
-    match v {
-        Verdict::Pass => true,
-        Verdict::Fail => false,
-        Verdict::Caller => false,
-        Verdict::Body => false,
-    }
-}
-
-fn failures_of(s: &[u8], ends: &[u16; Sheet::NODES], values: &[i32]) -> usize
-    requires { Given s.now ends.now }
-    ensures { result ≡ verdicts.failures s.now (at (pos 0) values.now) }
-{
-    let n = sheet::nodes(s) as u16;
-    let mut count = 0;
-    let mut i: u16 = 0;
-    while i < n {
-        if !is_pass(verdict_of(s, ends, values, Node(i))) {
-            count += 1;
+    fn answer(self, values: &[i32]) -> Answer
+        ensures { result ≡ operations.answer_of self.entry.s.now (at (pos 0) values.now) }
+    {
+        let root = value_of(values, Node(0));
+        let failures = self.failures(values);
+        let lowest = self.lowest(values);
+        Answer {
+            root,
+            failures,
+            lowest,
         }
-        i += 1;
     }
-    count
-}
 
-fn lowest_of(s: &[u8], ends: &[u16; Sheet::NODES], values: &[i32]) -> Lowest
-    requires { Given s.now ends.now }
-    ensures { result ≡ verdicts.lowest_failing s.now (at (pos 0) values.now) }
-{
-    let n = sheet::nodes(s) as u16;
-    let mut i: u16 = 0;
-    while i < n {
-        let v = verdict_of(s, ends, values, Node(i));
-        if !is_pass(v) {
-            return Lowest::Failing(Node(i), v);
+    // The ticks of a run, from fresh cells in the house order, over slices of the right lengths.
+    fn run_rows(
+        self,
+        rows: &[i32],
+        order: &mut [u16],
+        cells: &mut [i32],
+        values: &mut [i32],
+        outputs: &mut [i32],
+    ) -> usize
+        requires order_len { length order.old ≡ nodes self.s.now }
+        requires cells_len { length cells.old ≡ slots self.s.now }
+        requires values_len { length values.old ≡ nodes self.s.now }
+        requires rows_len { (length rows.now ≡ length outputs.old * columns self.s.now) × (length outputs.old ≤ operations.max_rows) }
+        ensures { operations.WorkedAll self.entry.s.now rows.now (length outputs.old) (Ran.Finished result) outputs.new }
+    {
+        order::fill_house(self.s, self.ends, order);
+        fill_start(self.s, cells);
+        let columns = sheet::byte(self.s, 3) as usize;
+        let mut run = RunState::fresh();
+        for (t, output) in outputs.iter_mut().enumerate() {
+            let from = t * columns;
+            self.step(&rows[from..from + columns], &*order, cells, values);
+            *output = value_of(&*values, Node(0));
+            run = run.after(0 < self.failures(&*values));
         }
-        i += 1;
-    }
-    Lowest::None
-}
-
-fn answer_of(s: &[u8], ends: &[u16; Sheet::NODES], values: &[i32]) -> Answer
-    requires { Given s.now ends.now }
-    ensures { result ≡ operations.answer_of s.now (at (pos 0) values.now) }
-{
-    let root = value_of(values, Node(0));
-    let failures = failures_of(s, ends, values);
-    let lowest = lowest_of(s, ends, values);
-    Answer {
-        root,
-        failures,
-        lowest,
+        run.failing
     }
 }
 
@@ -472,47 +464,18 @@ pub fn tick(s: &[u8], row: &[i32], cells: &mut [i32], order: &[u16], values: &mu
             if let Err(r) = test_tick(s, z, &ends, row, &*cells, order, values.len()) {
                 return Ticked::Refused(r);
             }
-            step(s, &ends, &slotted, row, order, cells, values);
-            Ticked::Done(answer_of(s, &ends, &*values))
+            let accepted = Accepted {
+                s,
+                ends: &ends,
+                slotted: &slotted,
+            };
+            accepted.step(row, order, cells, values);
+            Ticked::Done(accepted.answer(&*values))
         }
     }
 }
 
 // RUN
-
-// The ticks of a run, from fresh cells in the house order, over slices of the right lengths.
-fn run_rows(
-    s: &[u8],
-    ends: &[u16; Sheet::NODES],
-    slotted: &[u16; Sheet::NODES],
-    rows: &[i32],
-    order: &mut [u16],
-    cells: &mut [i32],
-    values: &mut [i32],
-    outputs: &mut [i32],
-) -> usize
-    requires given { Given s.now ends.now }
-    requires slotted { Slotted s.now slotted.now }
-    requires order_len { length order.old ≡ nodes s.now }
-    requires cells_len { length cells.old ≡ slots s.now }
-    requires values_len { length values.old ≡ nodes s.now }
-    requires rows_len { (length rows.now ≡ length outputs.old * columns s.now) × (length outputs.old ≤ operations.max_rows) }
-    ensures { operations.WorkedAll s.now rows.now (length outputs.old) (Ran.Finished result) outputs.new }
-{
-    order::fill_house(s, ends, order);
-    fill_start(s, cells);
-    let columns = sheet::byte(s, 3) as usize;
-    let mut run = RunState::fresh();
-    while run.ticks < outputs.len() {
-        let t = run.ticks;
-        let from = t * columns;
-        let to = from + columns;
-        step(s, ends, slotted, &rows[from..to], &*order, cells, values);
-        outputs[t] = value_of(&*values, Node(0));
-        run = run.after(0 < failures_of(s, ends, &*values));
-    }
-    run.failing
-}
 
 pub fn run(s: &[u8], rows: &[i32], outputs: &mut [i32]) -> Ran
     ensures { operations.Run s.now rows.now outputs.old result outputs.new }
@@ -526,15 +489,17 @@ pub fn run(s: &[u8], rows: &[i32], outputs: &mut [i32]) -> Ran
             if let Err(r) = test_run(s, rows, outputs.len()) {
                 return Ran::Refused(r);
             }
+            let accepted = Accepted {
+                s,
+                ends: &ends,
+                slotted: &slotted,
+            };
             let mut order = Sheet::fresh();
             let mut cells = RunState::cells();
             let mut values = RunState::values();
             let n = z.nodes;
             let k = z.slots;
-            Ran::Finished(run_rows(
-                s,
-                &ends,
-                &slotted,
+            Ran::Finished(accepted.run_rows(
                 rows,
                 &mut order[..n],
                 &mut cells[..k],

@@ -5,6 +5,7 @@ use mathlib.Core.List.{List}
 use native.Mathlib.Omega.{arith}
 use lib.Dec.{ltb}
 use lib.IntN.{ℤ}
+use denote.Enum.Bare.{sameb}
 use borrow.Author.Tests.{ltb-true}
 use Rattle.finite.specs.Lowest.{lowest}
 use Rattle.finite.proofs.Tests.{by-test}
@@ -15,7 +16,17 @@ use Rattle.sheet.specs.Form.{Formed}
 use Rattle.sheet.specs.declared.Kind.{Kind}
 use Rattle.sheet.specs.declared.Kind.TheVariants.{Const, Input, Var, Op, Fby, Rec, Let, Check, Contract, Unknown}
 use Rattle.sheet.proofs.SheetLaws.{operand_node}
-use Rattle.meaning.specs.Verdicts.{verdict_by, verdict, failing, failures, lowest_failing}
+use Rattle.meaning.specs.Verdicts.{verdict_by, verdict, is_pass, failing, failures, lowest_failing}
+use Rattle.meaning.specs.declared.Verdict.{Verdict}
+use Rattle.meaning.specs.declared.Verdict.TheVariants.{Pass, Fail, Caller, Body}
+use Rattle.meaning.specs.contracts.Verdict.{the_type}
+
+-- whether a verdict is PASS, by the derived comparison
+pub is_pass-same : (v : Verdict) → sameb the_type v Pass ≡ is_pass v
+is_pass-same Pass = refl
+is_pass-same Fail = refl
+is_pass-same Caller = refl
+is_pass-same Body = refl
 
 module _ {s : List ℕ} (f : Formed s) (v w : ℕ → ℤ) (same : (i : ℕ) → i < nodes s → v i ≡ w i) where
   by_operands : (i : ℕ) (k : Kind) → ((n : ℕ) → n < arity k → v (operand s i n) ≡ w (operand s i n)) → verdict_by s v i k ≡ verdict_by s w i k

@@ -1,15 +1,14 @@
 -- "Verdicts, for every node at every tick", from a tick's values v.
-use Rattle.std.specs.Prelude.{ℕ, Bool, true, false, cond, not, List, ℤ, ltb}
+use Rattle.std.specs.Prelude.{ℕ, Bool, true, false, cond, not, List, ℤ, ltb, Option, Some, None}
 use Rattle.finite.specs.Lowest.{lowest}
 use Rattle.finite.specs.Count.{count}
 use Rattle.number.specs.Operators.{truth}
 use Rattle.sheet.specs.Bytes.{nodes, kind_at, operand}
+use Rattle.sheet.specs.declared.Node.{Node}
 use Rattle.sheet.specs.declared.Kind.{Kind}
 use Rattle.sheet.specs.declared.Kind.TheVariants.{Const, Input, Var, Op, Fby, Rec, Let, Check, Contract, Unknown}
 use Rattle.meaning.specs.declared.Verdict.{Verdict}
 use Rattle.meaning.specs.declared.Verdict.TheVariants.{Pass, Fail, Caller, Body}
-use Rattle.meaning.specs.declared.Lowest.{Lowest}
-use Rattle.meaning.specs.declared.Lowest.TheVariants.{None, Failing}
 
 -- "A CONTRACT whose rely is false at this tick is CALLER; one whose rely is true and guarantee false at this tick is BODY"
 abbrev pub contract_verdict : (rely guarantee : Bool) → Verdict
@@ -45,8 +44,8 @@ unfoldable pub failures : List ℕ → (v : ℕ → ℤ) → ℕ
 failures s v = count (failing s v) (nodes s)
 
 -- "the lowest such node with its verdict, or that there is none"
-unfoldable pub lowest_failing : List ℕ → (v : ℕ → ℤ) → Lowest
-lowest_failing s v = let i = lowest (failing s v) 0 (nodes s) in cond (ltb i (nodes s)) (Failing (record { 0 = i }) (verdict s v i)) None
+unfoldable pub lowest_failing : List ℕ → (v : ℕ → ℤ) → Option (Node × Verdict)
+lowest_failing s v = let i = lowest (failing s v) 0 (nodes s) in cond (ltb i (nodes s)) (Some (record { 0 = i }, verdict s v i)) None
 
 -- "the number of ticks with any verdict other than PASS", of the first T, where X t i is node i's value at tick t
 unfoldable pub failing_ticks : List ℕ → (X : ℕ → ℕ → ℤ) → (T : ℕ) → ℕ

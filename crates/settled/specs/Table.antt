@@ -1,5 +1,5 @@
 -- "Those marked * are proved": the table of what the definitions say of the settled sheets.
-use Rattle.std.specs.Prelude.{ℕ, ◌≡◌, true, List, [], ◌∷◌, ℤ, pos, negsuc}
+use Rattle.std.specs.Prelude.{ℕ, ◌≡◌, true, List, [], ◌∷◌, ℤ, pos, negsuc, Some, None}
 use Rattle.finite.specs.Lists.{gather}
 use Rattle.sheet.specs.Ruling.{passed, refused, accepted, turned}
 use Rattle.sheet.specs.declared.ValueType.TheVariants.{Int as int}
@@ -8,7 +8,6 @@ use Rattle.order.specs.Orders.{house_order, ordered}
 use Rattle.meaning.specs.Equations.{Means}
 use Rattle.meaning.specs.Verdicts.{lowest_failing}
 use Rattle.meaning.specs.declared.Verdict.TheVariants.{Caller, Body}
-use Rattle.meaning.specs.declared.Lowest.TheVariants.{None, Failing}
 use Rattle.engine.specs.Rows.{row_at}
 use Rattle.listing.specs.Listing.{listing}
 use Rattle.listing.specs.Telling.{sheet_told}
@@ -45,7 +44,7 @@ pub record Settled : Type 0 where
   -- D, rows -1, 0, 5: values -2, -1, 4, verdicts CALLER, BODY, PASS
   pub D-accepted : check D ≡ accepted (record { nodes = 10; columns = 1; slots = 0; root = int })
   pub D-values : Gives D (negsuc 0 ∷ pos 0 ∷ pos 5 ∷ []) root 3 (negsuc 1 ∷ negsuc 0 ∷ pos 4 ∷ [])
-  pub D-verdicts : Gives D (negsuc 0 ∷ pos 0 ∷ pos 5 ∷ []) (lowest_failing D) 3 (Failing (record { 0 = 0 }) Caller ∷ Failing (record { 0 = 0 }) Body ∷ None ∷ [])
+  pub D-verdicts : Gives D (negsuc 0 ∷ pos 0 ∷ pos 5 ∷ []) (lowest_failing D) 3 (Some (record { 0 = 0 }, Caller) ∷ Some (record { 0 = 0 }, Body) ∷ None ∷ [])
   -- request P1: A's listing, and the sheet that it tells
   pub A-listing : listing A ≡ A-text
   pub A-told : sheet_told A-text ≡ A

@@ -1,33 +1,9 @@
--- After i nodes, each FBY among them has its first value in its cell.
-use Rattle.std.proofs.Common.{◌<◌, ◌∙◌, arith}
-use Rattle.number.proofs.Bridge.{back_ok}
-use Rattle.sheet.specs.Bytes.{nodes}
+-- Literals are given.
+use Rattle.std.proofs.Common.{rules}
+use Rattle.meaning.specs.Equations.{literal}
 use Rattle.meaning.specs.Cells.{start_cells}
-use Rattle.engine.proofs.FillLaws.{filled_none, filled-all, filled-past, filled-room, filled_more}
 use Rattle.engine.proofs.fill_start.Goals as goal
-use Rattle.engine.proofs.fill_start.Goals.{then-is_fby, else-is_fby}
-
-pub loop-i-init : goal.loop-i-init
-loop-i-init c = filled_none _ _ _
-
-pub bounds-cells-j : goal.bounds-cells-j
-bounds-cells-j c = filled-room c.requires.cells_len c.loop-i.invariant (omega arith) c.kind_at.ensures c.is_fby.ensures c.if-is_fby.true
-
-pub offset_bounds-cells-j : goal.offset_bounds-cells-j
-offset_bounds-cells-j c = omega (arith, c.loop-i.invariant.few)
-
-pub overflow_add-j : goal.overflow_add-j
-overflow_add-j c = omega (arith, c.loop-i.invariant.few)
-
-pub loop-i-preserved : goal.loop-i-preserved
-loop-i-preserved c =
-    let l = c.loop-i in
-    let node : l.i < nodes c.args.s.now = omega arith in
-    elim c.if-is_fby.branch [
-      | then-is_fby w ↦ filled_more c.requires.cells_len l.invariant node c.kind_at.ensures c.is_fby.ensures w.if-is_fby.true (back_ok w.literal.type_inv ∙ w.literal.ensures) w.cells-is w.j-is
-      | else-is_fby w ↦ filled-past c.requires.cells_len l.invariant node c.kind_at.ensures c.is_fby.ensures w.if-is_fby.false w.cells-is w.j-is
-    ]
 
 pub returns : goal.returns
 unfolding start_cells
-returns c = filled-all c.requires.cells_len c.loop-i.invariant (omega arith)
+returns c = c.fill.ensures (literal c.args.s.now) (λ i l f v p. search rules)

@@ -12,24 +12,24 @@ use Rattle.sheet.specs.Form.{known, bad_record, Formed}
 use Rattle.sheet.specs.declared.ValueType.{ValueType}
 use Rattle.sheet.specs.declared.Kind.{Kind}
 use Rattle.sheet.specs.declared.Kind.TheVariants.{Const, Input, Var, Op, Fby, Rec, Let, Check, Contract, Unknown}
-use Rattle.order.specs.Needs.{needs as needs_of, need_count, Given}
+use Rattle.order.specs.Needs.{needs as needs_of, need_count}
 use Rattle.order.proofs.NeedsLaws.{need_by, need_at}
 use Rattle.meaning.specs.Equations.{value_by}
 use Rattle.meaning.specs.Local.{local_by, local_value}
 use Rattle.meaning.specs.Cells.{held}
-use Rattle.engine.proofs.value.Goals as goal
+use Rattle.engine.proofs.FunctionLaws.{given}
+use Rattle.engine.proofs.Accepted.value.Goals as goal
 
 -- an INPUT names a column
 column : {s : List ℕ} → Formed s → (i : ℕ) → i < nodes s → kind_at s i ≡ Input → argument s i < columns s
 unfolding bad_record known
 column {s} f i h e = ltb-true _ _ (rw e at (not-false (known (columns s) (kind_at s i) (argument s i)) (f.records i h)))
 
--- what is read at what `need` answers is that need's value
-need_value : {s ends : List ℕ} → Given s ends → (i : ℕ) → i < nodes s → (kind : Kind) → kind_at s i ≡ kind → (v : ℕ → ℤ) (k r : ℕ) (x : ℤ)
-    → (Given s ends → i < nodes s → k < need_count (kind_at s i) → r ≡ get_or (needs_of s i) k 0) → mag x < 2147483648 → x ≡ v r → k < need_count kind
-    → to_z w32 (of_z w32 x) ≡ v (need_by s i kind k)
+-- the value of need k, of a node of a kind
+need_value : (s : List ℕ) (i : ℕ) (kind : Kind) → kind_at s i ≡ kind → (v : ℕ → ℤ) (k : ℕ) (x : ℤ) → mag x < 2147483648
+    → (k < need_count (kind_at s i) → x ≡ v (get_or (needs_of s i) k 0)) → k < need_count kind → to_z w32 (of_z w32 x) ≡ v (need_by s i kind k)
 unfolding needs_of
-need_value {s} g i h kind e v k r x found ok read l = back_ok ok ∙ read ∙ ap v (found g h (rw e l) ∙ rw e (need_at s i kind k l))
+need_value s i kind e v k x ok read l = back_ok ok ∙ read (rw e l) ∙ ap v (rw e (need_at s i kind k l))
 
 -- operands past the operator's count are not looked at
 operated : (o : Operator) (y : ℕ → ℤ) (p q r : ℤ) → (0 < operands o → p ≡ y 0) → (1 < operands o → q ≡ y 1) → (2 < operands o → r ≡ y 2)
@@ -65,29 +65,23 @@ returns-in-Const c = rw (← c.in-Const.ensures) (back_ok c.literal.type_inv ∙
 pub returns-in-Input : goal.returns-in-Input
 unfolding local_value local_by value_by is_var
 returns-in-Input c =
-    let p = c.requires in
-    let f = p.given.sound.formed in
-    let b = c.input_column.ensures (omega (arith, column f _ p.i_bound (sym c.in-Input.ensures), f.narrow)) in
+    let f = (given c.args.self).sound.formed in
+    let b = c.input_column.ensures (omega (arith, column f _ c.requires (sym c.in-Input.ensures), f.narrow)) in
     rw (← c.in-Input.ensures) (back_ok c.input.type_inv ∙ (rw b at c.input.ensures))
 
 pub returns-in-Op : goal.returns-in-Op
 unfolding local_value local_by value_by is_var
 returns-in-Op c =
-    let p = c.requires in
     let a = c.args in
     let v : ℕ → ℤ = at (pos 0) a.values.now in
-    let need = need_value p.given a.i.0 p.i_bound (Op _) (sym c.in-Op.ensures) v in
+    let need = need_value a.self.s.now a.i.0 (Op c.in-Op.o) (sym c.in-Op.ensures) v in
     rw (← c.in-Op.ensures) (back_ok c.apply.type_inv ∙ c.apply.ensures
-    ∙ operated _ (λ k. v (operand a.s.now a.i.0 k)) _ _ _
-    (need 0 _ _ c.need.ensures c.value_of-a.type_inv c.value_of-a.ensures)
-    (need 1 _ _ c.need-in-Op.ensures c.value_of-b.type_inv c.value_of-b.ensures)
-    (need 2 _ _ c.need-in-Op-2.ensures c.value_of-c.type_inv c.value_of-c.ensures))
+    ∙ operated _ (λ k. v (operand a.self.s.now a.i.0 k)) _ _ _
+    (need 0 _ c.need-a.type_inv c.need-a.ensures) (need 1 _ c.need-b.type_inv c.need-b.ensures) (need 2 _ c.need-c.type_inv c.need-c.ensures))
 
 pub returns-in-Fby : goal.returns-in-Fby
 unfolding local_value local_by value_by is_var held
-returns-in-Fby c =
-    let p = c.requires in
-    rw (← c.in-Fby.ensures) (back_ok c.cell.type_inv ∙ (rw (c.slot_of.ensures ∙ p.slotted _ p.i_bound) at c.cell.ensures))
+returns-in-Fby c = rw (← c.in-Fby.ensures) (back_ok c.cell.type_inv ∙ (rw c.slot.ensures at c.cell.ensures))
 
 pub returns-in-Unknown : goal.returns-in-Unknown
 unfolding local_value local_by value_by is_var
@@ -96,10 +90,9 @@ returns-in-Unknown c = rw (← c.in-Unknown.ensures)
 pub returns-in_default : goal.returns-in_default
 unfolding local_value
 returns-in_default c =
-    let p = c.requires in
     let a = c.args in
     let d = c.in_default in
-    let e = sym c.kind_at-k.ensures in
+    let e = sym c.kind_at.ensures in
     let v : ℕ → ℤ = at (pos 0) a.values.now in
-    let q = needed a.s.now a.row.now _ v a.i.0 _ d.not-Const d.not-Input d.not-Op d.not-Fby d.not-Unknown in
-    need_value p.given a.i.0 p.i_bound _ e v 0 _ _ c.need-in_default.ensures c.value_of.type_inv c.value_of.ensures q.0 ∙ rw e q.1
+    let q = needed a.self.s.now a.row.now _ v a.i.0 _ d.not-Const d.not-Input d.not-Op d.not-Fby d.not-Unknown in
+    need_value _ _ _ e v 0 _ c.need.type_inv c.need.ensures q.0 ∙ rw e q.1
