@@ -13,11 +13,11 @@ use lib.ListN.{length, get_or}
 use lib.Seq.{ext_get_or}
 use Rattle.finite.specs.Lists.{gather}
 use Rattle.table.specs.Equations.{at}
-use Rattle.sheet.specs.Ruling.{Ruling, passed, refused, told, at_end, accepted, turned, answer, number_of, place_of}
+use Rattle.sheet.specs.Ruling.{Ruling, passed, refused, told, said, at_end, turned, answer, number_of, place_of}
 use Rattle.sheet.specs.Bytes.{nodes, columns}
 use Rattle.sheet.specs.Form.{Formed}
 use Rattle.sheet.specs.declared.Refusal.{Refusal}
-use Rattle.sheet.proofs.RulingLaws.{answer-accepted, one_answer}
+use Rattle.sheet.proofs.RulingLaws.{answer-accepted, answer-turned, one_said, one_answer}
 use Rattle.rules.specs.Types.{mistyped}
 use Rattle.rules.specs.Slots.{slots}
 use Rattle.rules.specs.Check.{Sound}
@@ -35,12 +35,8 @@ use Rattle.meaning.proofs.CellLaws.{length_at, held_at, stream_start, stream_ste
 use Rattle.meaning.proofs.TypedLaws.{start_bits, next_bits}
 use Rattle.meaning.proofs.VerdictLaws.{verdict-same, failures-same, lowest_failing-same}
 use Rattle.engine.specs.Rows.{row_at}
-use Rattle.engine.specs.Operations.{start_rules, Start, tick_rules, answer_of, said_tick, Worked, Tick, run_rules, said_run, Run}
+use Rattle.engine.specs.Operations.{start_rules, Start, tick_rules, answer_of, Worked, Tick, run_rules, Run}
 use Rattle.engine.specs.declared.Answer.{Answer}
-use Rattle.engine.specs.declared.Ticked.{Ticked}
-use Rattle.engine.specs.declared.Ticked.TheVariants.{Done, Refused}
-use Rattle.engine.specs.declared.Ran.{Ran}
-use Rattle.engine.specs.declared.Ran.TheVariants.{Finished, Refused as NotRun}
 use Rattle.engine.proofs.RuleLaws.{by-ruling, house_exactly, start_exactly, Ready, tick_exactly, order_exactly, run_exactly}
 
 -- exactly one set of values meets the equations of an accepted sheet
@@ -79,38 +75,29 @@ module _ {s : List ℕ} {old : List ℤ} {r : Result (Unit {0}) Refusal} {new : 
 
 -- ---- Tick, from any cells
 
-done_said : (r : Ticked) (a : Answer) → said_tick r ≡ accepted a → r ≡ Done a
-done_said (Done b) a e = ap Done (cc)
-done_said (Refused x) a e = let z : ◌≡◌ {A = ℕ} 0 1 = cc in absurd (omega arith)
-
-pub answer-turned : {A : Type 0} (q : Ruling) (a : A) (number place : ℕ) → answer q a ≡ turned number place → q ≡ refused number place
-unfolding answer
-answer-turned passed a number place e = let z : ◌≡◌ {A = ℕ} 0 1 = cc in absurd (omega arith)
-answer-turned (refused n p) a number place e = cc
-
-module _ {s : List ℕ} {row cells : List ℤ} {order : List ℕ} {values : List ℤ} {r : Ticked} {cells' values' : List ℤ}
+module _ {s : List ℕ} {row cells : List ℤ} {order : List ℕ} {values : List ℤ} {r : Result Answer Refusal} {cells' values' : List ℤ}
     (k : Tick s row cells order values r cells' values') where
   abbrev ruling : Ruling
   ruling = tick_rules s row cells order (length values)
 
   -- a refusal answers its number and place and changes no lent memory
   pub refused_tick : (number place : ℕ) → tick_rules s row cells order (length values) ≡ refused number place →
-      (said_tick r ≡ turned number place) × (cells' ≡ cells) × (values' ≡ values)
+      (said r ≡ turned number place) × (cells' ≡ cells) × (values' ≡ values)
   unfolding answer
   refused_tick number place e = let l = rw e at k.left in (rw e at k.answer, l.0, l.1)
 
   -- a refused call is no tick
-  pub no_tick : (x : Refusal) → r ≡ Refused x → (cells' ≡ cells) × (values' ≡ values)
+  pub no_tick : (x : Refusal) → r ≡ Err x → (cells' ≡ cells) × (values' ≡ values)
   no_tick x e =
-      let l = refused_tick (number_of x) (place_of x) (answer-turned ruling (answer_of s (at (pos 0) values')) _ _ (sym k.answer ∙ rw e)) in (l.1, l.2)
+      let l = refused_tick (number_of x) (place_of x) (answer-turned ruling (answer_of s (at (pos 0) values')) _ _ (rw e at k.answer)) in (l.1, l.2)
 
   -- else "Tick's values are those of the rules with each FBY's value read from its slot", and it answers the root's value and verdicts
-  pub tick_values : tick_rules s row cells order (length values) ≡ passed → (r ≡ Done (answer_of s (at (pos 0) values'))) × Worked s row cells cells' values'
+  pub tick_values : tick_rules s row cells order (length values) ≡ passed → (r ≡ Ok (answer_of s (at (pos 0) values'))) × Worked s row cells cells' values'
   unfolding answer
-  tick_values p = (done_said r _ (rw p at k.answer), rw p at k.left)
+  tick_values p = (one_said r (Ok _) (rw p at k.answer), rw p at k.left)
 
   -- any right order is accepted, no other is
-  pub order-accepted : Ready s row cells → length values ≡ nodes s → ((a : Answer) × (r ≡ Done a)) ↔ RightOrder s order
+  pub order-accepted : Ready s row cells → length values ≡ nodes s → ((a : Answer) × (r ≡ Ok a)) ↔ RightOrder s order
   order-accepted ready l =
       let exactly = order_exactly s row cells order (length values) ready l in (
         λ d. exactly.0 ((answer-accepted ruling _ d.0).0 (sym k.answer ∙ rw d.1)).0,
@@ -124,7 +111,7 @@ worked_same {s} {row} {before} {values₁ = v} {values₂ = w} z p q =
     (λ i l. tick_same s (scoped_of z) row (held s before) (needs-end z) (at (pos 0) v) (at (pos 0) w) p.values q.values i (omega (arith, p.size)))
 
 -- two accepted ticks of one sheet, row and cells: whichever right orders, and whatever the values held, they answer and leave the same
-module _ {s : List ℕ} {row cells : List ℤ} {order₁ order₂ : List ℕ} {values₁ values₂ : List ℤ} {r₁ r₂ : Ticked} {cells₁ cells₂ new₁ new₂ : List ℤ}
+module _ {s : List ℕ} {row cells : List ℤ} {order₁ order₂ : List ℕ} {values₁ values₂ : List ℤ} {r₁ r₂ : Result Answer Refusal} {cells₁ cells₂ new₁ new₂ : List ℤ}
     (k₁ : Tick s row cells order₁ values₁ r₁ cells₁ new₁) (k₂ : Tick s row cells order₂ values₂ r₂ cells₂ new₂) where
   pub ticks_equal : tick_rules s row cells order₁ (length values₁) ≡ passed → tick_rules s row cells order₂ (length values₂) ≡ passed →
       (r₁ ≡ r₂) × (cells₁ ≡ cells₂) × (new₁ ≡ new₂)
@@ -142,7 +129,7 @@ module _ {s : List ℕ} {row cells : List ℤ} {order₁ order₂ : List ℕ} {v
 
 -- T ticks after a start, each with a row, an order and lent values of its own
 pub record Calls (s : List ℕ) (T : ℕ) (rows : ℕ → List ℤ) (orders : ℕ → List ℕ) (lent : ℕ → List ℤ)
-    (r : ℕ → Ticked) (cells values : ℕ → List ℤ) : Type 0 where
+    (r : ℕ → Result Answer Refusal) (cells values : ℕ → List ℤ) : Type 0 where
   -- document 01's rules 1 to 11 hold of the sheet
   pub sound : Sound s
   -- the rows have C entries, and 0 or 1 in bool columns
@@ -161,9 +148,9 @@ pub record Calls (s : List ℕ) (T : ℕ) (rows : ℕ → List ℤ) (orders : �
   pub ticked : (t : ℕ) → t < T → Tick s (rows t) (cells t) (orders t) (lent t) (r t) (cells (suc t)) (values t)
 
 -- what tick t answered and left is what X says
-pub record Meant (s : List ℕ) (X : ℕ → ℕ → ℤ) (t : ℕ) (r : Ticked) (before after values : List ℤ) : Type 0 where
+pub record Meant (s : List ℕ) (X : ℕ → ℕ → ℤ) (t : ℕ) (r : Result Answer Refusal) (before after values : List ℤ) : Type 0 where
   -- it was not refused, and answered the root's value and verdicts
-  pub answer : r ≡ Done (answer_of s (X t))
+  pub answer : r ≡ Ok (answer_of s (X t))
   -- every node's value, and every node's verdict
   pub size : length values ≡ nodes s
   pub value : (i : ℕ) → i < nodes s → get_or values i (pos 0) ≡ X t i
@@ -186,7 +173,7 @@ module _ {s : List ℕ} (z : Sound s) (T : ℕ) (rows : ℕ → List ℤ) (bits 
       (rows t) (bits t b) (delayed s X t) (delayed_bits t (omega arith)) (X t) (needs-end z) (m t)
 
   -- a tick in a right order from the cells that X says
-  pub tick_meant : (t : ℕ) → t < T → {cells lent cells' values : List ℤ} {order : List ℕ} {r : Ticked} →
+  pub tick_meant : (t : ℕ) → t < T → {cells lent cells' values : List ℤ} {order : List ℕ} {r : Result Answer Refusal} →
       length (rows t) ≡ columns s → RightOrder s order → length lent ≡ nodes s → Tick s (rows t) cells order lent r cells' values →
       cells ≡ cells_at s X t → Meant s X t r cells cells' values
   tick_meant t b {cells} {values = values} wide right sized k c =
@@ -201,7 +188,7 @@ module _ {s : List ℕ} (z : Sound s) (T : ℕ) (rows : ℕ → List ℤ) (bits 
       let (a, w) = tick_values k ((order_exactly s _ _ _ _ ready sized).1 right) in
       let (same, next) = stream_step z.formed (scoped_of z) (needs-end z) rows X m t cells (at (pos 0) values) c w.values in
       record {
-        answer = a ∙ ap Done (answer-same z.formed (at (pos 0) values) (X t) same);
+        answer = a ∙ ap Ok (answer-same z.formed (at (pos 0) values) (X t) same);
         size = w.size;
         value = same;
         verdicts = verdict-same z.formed (at (pos 0) values) (X t) same;
@@ -209,7 +196,7 @@ module _ {s : List ℕ} (z : Sound s) (T : ℕ) (rows : ℕ → List ℤ) (bits 
         slots-after = w.cells ∙ rw add-one at next;
       }
 
-module _ {s : List ℕ} {T : ℕ} {rows : ℕ → List ℤ} {orders : ℕ → List ℕ} {lent : ℕ → List ℤ} {r : ℕ → Ticked} {cells values : ℕ → List ℤ}
+module _ {s : List ℕ} {T : ℕ} {rows : ℕ → List ℤ} {orders : ℕ → List ℕ} {lent : ℕ → List ℤ} {r : ℕ → Result Answer Refusal} {cells values : ℕ → List ℤ}
     (k : Calls s T rows orders lent r cells values) (X : ℕ → ℕ → ℤ) (m : Means s rows X) where
   turn : (t : ℕ) → t < T → cells t ≡ cells_at s X t → Meant s X t (r t) (cells t) (cells (suc t)) (values t)
   turn t b = tick_meant k.sound T rows k.bits X m t b (k.wide t b) (k.right t b) (k.sized t b) (k.ticked t b)
@@ -224,7 +211,7 @@ module _ {s : List ℕ} {T : ℕ} {rows : ℕ → List ℤ} {orders : ℕ → Li
 
 -- any right orders, a new one each tick, give equal answers, values (and so verdicts) and slots
 pub histories_equal : {s : List ℕ} {T : ℕ} {rows : ℕ → List ℤ} {orders₁ orders₂ : ℕ → List ℕ} {lent₁ lent₂ : ℕ → List ℤ}
-    {r₁ r₂ : ℕ → Ticked} {cells₁ cells₂ values₁ values₂ : ℕ → List ℤ} →
+    {r₁ r₂ : ℕ → Result Answer Refusal} {cells₁ cells₂ values₁ values₂ : ℕ → List ℤ} →
     Calls s T rows orders₁ lent₁ r₁ cells₁ values₁ → Calls s T rows orders₂ lent₂ r₂ cells₂ values₂ →
     (t : ℕ) → t < T → (r₁ t ≡ r₂ t) × (values₁ t ≡ values₂ t) × (cells₁ t ≡ cells₂ t) × (cells₁ (suc t) ≡ cells₂ (suc t))
 histories_equal {s} {rows = rows} {values₁ = v} {values₂ = w} k₁ k₂ t b =
@@ -240,16 +227,16 @@ histories_equal {s} {rows = rows} {values₁ = v} {values₂ = w} k₁ k₂ t b 
 
 -- ---- Run
 
-module _ {s : List ℕ} {rows old : List ℤ} {r : Ran} {new : List ℤ} (k : Run s rows old r new) where
-  pub refused_run : (number place : ℕ) → run_rules s rows (length old) ≡ refused number place → (said_run r ≡ turned number place) × (new ≡ old)
+module _ {s : List ℕ} {rows old : List ℤ} {r : Result ℕ Refusal} {new : List ℤ} (k : Run s rows old r new) where
+  pub refused_run : (number place : ℕ) → run_rules s rows (length old) ≡ refused number place → (said r ≡ turned number place) × (new ≡ old)
   refused_run number place e = rw e at k.left
 
   -- else the outputs are the root's values, and the failing ticks are counted, by the stream meaning
   pub run_values : run_rules s rows (length old) ≡ passed → (X : ℕ → ℕ → ℤ) → Means s (row_at s rows) X →
-      (r ≡ Finished (failing_ticks s X (length old))) × (new ≡ gather (λ t. true) (λ t. X t 0) (length old))
+      (r ≡ Ok (failing_ticks s X (length old))) × (new ≡ gather (λ t. true) (λ t. X t 0) (length old))
   run_values p X m = let w = rw p at k.left in (w.answer X m, w.outputs X m)
 
-  pub no_run : (x : Refusal) → r ≡ NotRun x → new ≡ old
+  pub no_run : (x : Refusal) → r ≡ Err x → new ≡ old
   no_run x e =
       by-ruling (run_rules s rows (length old))
       (λ p.

@@ -1,11 +1,10 @@
--- Laws that several functions' proofs cite: the nodes that fail, the places tried so far, and what an accepted sheet with its tables is known for.
-use Prim.Native.Nat.{ℕ, ◌-◌}
+-- Laws that several functions' proofs cite: the nodes that fail, and what needs of an accepted sheet are looked up by.
+use Prim.Native.Nat.{ℕ}
 use mathlib.Core.Path.{◌≡◌, refl}
 use mathlib.Core.Bool.{Bool, true, false, not}
 use mathlib.Core.List.{List}
 use lib.IntN.{ℤ, pos}
 use denote.Enum.Bare.{sameb}
-use Rattle.finite.specs.Lowest.{lowest}
 use Rattle.finite.proofs.Tests.{not-both}
 use Rattle.table.specs.Equations.{at}
 use Rattle.sheet.specs.Ruling.{Ruling, passed, refused, passes}
@@ -18,10 +17,6 @@ use Rattle.meaning.specs.declared.Verdict.TheVariants.{Pass}
 use Rattle.meaning.specs.contracts.Verdict.{the_type}
 use Rattle.meaning.proofs.VerdictLaws.{is_pass-same}
 use Rattle.engine.specs.declared.Accepted.{Accepted}
-
--- of the places below count, none before i breaks the rule
-abbrev pub Tried : (ℕ → Bool) → (count i : ℕ) → Type 0
-Tried breaks count i = lowest breaks 0 count ≡ lowest breaks i (count - i)
 
 -- a node fails, by a list of values; and what is found of it
 abbrev pub fails : (s : List ℕ) (values : List ℤ) → ℕ → Bool

@@ -9,31 +9,14 @@ use Rattle.std.proofs.Common.{Result}
 use Rattle.sheet.specs.Ruling.{said}
 use Rattle.sheet.specs.declared.Sheet.{Sheet}
 use Rattle.sheet.specs.declared.Refusal.{Refusal}
-use Rattle.sheet.proofs.RulingLaws.{one_refusal, one_said, one_answer}
+use Rattle.sheet.proofs.RulingLaws.{one_said, one_answer}
 use Rattle.rules.specs.Check.{check}
 use Rattle.order.specs.Orders.{HouseOrder}
 use Rattle.engine.specs.Rows.{row_at}
-use Rattle.engine.specs.Operations.{Start, tick_rules, said_tick, Tick, run_rules, said_run, Run}
-use Rattle.engine.specs.declared.Ticked.{Ticked}
-use Rattle.engine.specs.declared.Ticked.TheVariants.{Done, Refused}
-use Rattle.engine.specs.declared.Ran.{Ran}
-use Rattle.engine.specs.declared.Ran.TheVariants.{Finished, Refused as NotRun}
+use Rattle.engine.specs.Operations.{Start, tick_rules, Tick, run_rules, Run}
+use Rattle.engine.specs.declared.Answer.{Answer}
 use Rattle.engine.proofs.RuleLaws.{by-ruling, run_exactly}
 use Rattle.engine.proofs.Demands.{meaning, refused_tick, ticks_equal, refused_run, run_values}
-
--- ---- what an answer says tells the answer
-
-one_ticked : (a b : Ticked) → said_tick a ≡ said_tick b → a ≡ b
-one_ticked (Done a) (Done b) e = ap Done (cc)
-one_ticked (Done a) (Refused b) e = let z : ◌≡◌ {A = ℕ} 0 1 = cc in absurd (omega arith)
-one_ticked (Refused a) (Done b) e = let z : ◌≡◌ {A = ℕ} 0 1 = cc in absurd (omega arith)
-one_ticked (Refused a) (Refused b) e = ap Refused (one_refusal a b (cc) (cc))
-
-one_ran : (a b : Ran) → said_run a ≡ said_run b → a ≡ b
-one_ran (Finished a) (Finished b) e = ap Finished (cc)
-one_ran (Finished a) (NotRun b) e = let z : ◌≡◌ {A = ℕ} 0 1 = cc in absurd (omega arith)
-one_ran (NotRun a) (Finished b) e = let z : ◌≡◌ {A = ℕ} 0 1 = cc in absurd (omega arith)
-one_ran (NotRun a) (NotRun b) e = ap NotRun (one_refusal a b (cc) (cc))
 
 -- ---- the operations
 
@@ -46,7 +29,7 @@ one_house {r = r} {r' = r'} k k' = (one_answer r r' (k.answer ∙ sym k'.answer)
 pub one_start : {s : List ℕ} {old : List ℤ} {r r' : Result (Unit {0}) Refusal} {new new' : List ℤ} → Start s old r new → Start s old r' new' → (r ≡ r') × (new ≡ new')
 one_start {r = r} {r' = r'} k k' = (one_answer r r' (k.answer ∙ sym k'.answer), k.cells ∙ sym k'.cells)
 
-pub one_tick : {s : List ℕ} {row cells : List ℤ} {order : List ℕ} {values : List ℤ} {r r' : Ticked} {c c' v v' : List ℤ} →
+pub one_tick : {s : List ℕ} {row cells : List ℤ} {order : List ℕ} {values : List ℤ} {r r' : Result Answer Refusal} {c c' v v' : List ℤ} →
     Tick s row cells order values r c v → Tick s row cells order values r' c' v' → (r ≡ r') × (c ≡ c') × (v ≡ v')
 one_tick {s} {row} {cells} {order} {values} {r} {r'} k k' =
     by-ruling (tick_rules s row cells order (length values))
@@ -54,9 +37,9 @@ one_tick {s} {row} {cells} {order} {values} {r} {r'} k k' =
     (λ number place e.
     let (a, c, v) = refused_tick k number place e in
     let (a', c', v') = refused_tick k' number place e in
-    (one_ticked r r' (a ∙ sym a'), c ∙ sym c', v ∙ sym v'))
+    (one_said r r' (a ∙ sym a'), c ∙ sym c', v ∙ sym v'))
 
-pub one_run : {s : List ℕ} {rows old : List ℤ} {r r' : Ran} {new new' : List ℤ} → Run s rows old r new → Run s rows old r' new' → (r ≡ r') × (new ≡ new')
+pub one_run : {s : List ℕ} {rows old : List ℤ} {r r' : Result ℕ Refusal} {new new' : List ℤ} → Run s rows old r new → Run s rows old r' new' → (r ≡ r') × (new ≡ new')
 one_run {s} {rows} {old} {r} {r'} k k' =
     by-ruling (run_rules s rows (length old))
     (λ p.
@@ -67,4 +50,4 @@ one_run {s} {rows} {old} {r} {r'} k k' =
     (λ number place e.
     let (a, o) = refused_run k number place e in
     let (a', o') = refused_run k' number place e in
-    (one_ran r r' (a ∙ sym a'), o ∙ sym o'))
+    (one_said r r' (a ∙ sym a'), o ∙ sym o'))

@@ -4,7 +4,7 @@ use mathlib.Core.Path.{◌≡◌, refl, sym, ap, ◌∙◌}
 use mathlib.Core.Bool.{true}
 use mathlib.Core.List.{List}
 use native.Mathlib.Omega.{arith}
-use Rattle.std.proofs.Common.{Ok, Err}
+use Rattle.std.proofs.Common.{Result, Ok, Err}
 use lib.IntN.{ℤ, pos}
 use lib.ListN.{length, take}
 use lib.Seq.{length-take-le}
@@ -24,9 +24,6 @@ use Rattle.order.specs.Needs.{Given}
 use Rattle.meaning.specs.Cells.{start_cells}
 use Rattle.engine.specs.Operations.{start_rules, Start, tick_tests, tick_rules, answer_of, Worked, Tick, run_tests, run_rules, WorkedAll, Run}
 use Rattle.engine.specs.declared.Answer.{Answer}
-use Rattle.engine.specs.declared.Ticked.TheVariants.{Done, Refused as NoTick}
-use Rattle.engine.specs.declared.Ran.{Ran}
-use Rattle.engine.specs.declared.Ran.TheVariants.{Refused as NoRun}
 
 -- ---- an accepted sheet
 
@@ -100,16 +97,16 @@ module _ (s : List ℕ) (old : List ℤ) where
 -- ---- Tick
 
 module _ (s : List ℕ) (row cells : List ℤ) (order : List ℕ) (values : List ℤ) where
-  refused_by : (r : Refusal) → tick_rules s row cells order (length values) ≡ refused (number_of r) (place_of r) → Tick s row cells order values (NoTick r) cells values
+  refused_by : (r : Refusal) → tick_rules s row cells order (length values) ≡ refused (number_of r) (place_of r) → Tick s row cells order values (Err r) cells values
   unfolding answer
   refused_by r q = record { answer = rw q; left = rw q (refl, refl) }
 
-  pub tick_refused : (r : Refusal) → turned (number_of r) (place_of r) ≡ check s → Tick s row cells order values (NoTick r) cells values
+  pub tick_refused : (r : Refusal) → turned (number_of r) (place_of r) ≡ check s → Tick s row cells order values (Err r) cells values
   unfolding tick_rules
   tick_refused r e = refused_by r (after_refusal s _ _ _ e)
 
   module _ {z : Sheet} (e : accepted z ≡ check s) where
-    pub tick_turned : (r : Refusal) → refused (number_of r) (place_of r) ≡ tick_tests s row cells order (length values) → Tick s row cells order values (NoTick r) cells values
+    pub tick_turned : (r : Refusal) → refused (number_of r) (place_of r) ≡ tick_tests s row cells order (length values) → Tick s row cells order values (Err r) cells values
     unfolding tick_rules
     tick_turned r t = refused_by r (after-rules s _ e ∙ sym t)
 
@@ -118,22 +115,22 @@ module _ (s : List ℕ) (row cells : List ℤ) (order : List ℕ) (values : List
     tick_passed t = after-rules s _ e ∙ sym t
 
     pub tick_done : passed ≡ tick_tests s row cells order (length values) → (cells' values' : List ℤ) (a : Answer) → Worked s row cells cells' values' →
-        a ≡ answer_of s (at (pos 0) values') → Tick s row cells order values (Done a) cells' values'
+        a ≡ answer_of s (at (pos 0) values') → Tick s row cells order values (Ok a) cells' values'
     unfolding answer
     tick_done t cells' values' a w q = let p = tick_passed t in record { answer = rw (p, q); left = rw p w }
 
 -- ---- Run
 
 module _ (s : List ℕ) (rows old : List ℤ) where
-  ended_by : (r : Refusal) → run_rules s rows (length old) ≡ refused (number_of r) (place_of r) → Run s rows old (NoRun r) old
+  ended_by : (r : Refusal) → run_rules s rows (length old) ≡ refused (number_of r) (place_of r) → Run s rows old (Err r) old
   ended_by r q = record { left = rw q (refl, refl) }
 
-  pub run_refused : (r : Refusal) → turned (number_of r) (place_of r) ≡ check s → Run s rows old (NoRun r) old
+  pub run_refused : (r : Refusal) → turned (number_of r) (place_of r) ≡ check s → Run s rows old (Err r) old
   unfolding run_rules
   run_refused r e = ended_by r (after_refusal s _ _ _ e)
 
   module _ {z : Sheet} (e : accepted z ≡ check s) where
-    pub run_turned : (r : Refusal) → refused (number_of r) (place_of r) ≡ run_tests s rows (length old) → Run s rows old (NoRun r) old
+    pub run_turned : (r : Refusal) → refused (number_of r) (place_of r) ≡ run_tests s rows (length old) → Run s rows old (Err r) old
     unfolding run_rules
     run_turned r t = ended_by r (after-rules s _ e ∙ sym t)
 
@@ -141,5 +138,5 @@ module _ (s : List ℕ) (rows old : List ℤ) where
     unfolding run_rules
     run_passed t = after-rules s _ e ∙ sym t
 
-    pub run_done : passed ≡ run_tests s rows (length old) → (r : Ran) (new : List ℤ) → WorkedAll s rows (length old) r new → Run s rows old r new
+    pub run_done : passed ≡ run_tests s rows (length old) → (r : Result ℕ Refusal) (new : List ℤ) → WorkedAll s rows (length old) r new → Run s rows old r new
     run_done t r new w = record { left = rw (run_passed t) w }

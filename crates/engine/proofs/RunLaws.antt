@@ -6,6 +6,7 @@ use mathlib.Core.List.{List, ◌++◌}
 use native.Mathlib.Nat.{suc-mul, mul-le-mul_right}
 use native.Mathlib.Numerals.{add-one}
 use native.Mathlib.Omega.{arith}
+use Rattle.std.proofs.Common.{Ok}
 use lib.Dec.{ltb}
 use lib.IntN.{ℤ, pos}
 use lib.ListN.{length, set, take, drop, length-set}
@@ -26,7 +27,6 @@ use Rattle.meaning.proofs.CellLaws.{length-start, length-next, stream_start, str
 use Rattle.meaning.proofs.VerdictLaws.{failures-same}
 use Rattle.engine.specs.Rows.{row_at}
 use Rattle.engine.specs.Operations.{max_rows, Worked, WorkedAll}
-use Rattle.engine.specs.declared.Ran.TheVariants.{Finished}
 
 -- the row of tick t ends within T rows of c entries, and the part of them from there is the row
 pub row_end : (T : ℕ) {t c n m : ℕ} → n ≡ T * m → c ≡ m → t < T → t * c + c ≤ n
@@ -84,10 +84,10 @@ module _ {s : List ℕ} {rows lent outputs cells values : List ℤ} {ticks faili
             );
       }
 
-  pub after-all : length lent ≤ ticks → WorkedAll s rows (length lent) (Finished failing) outputs
+  pub after-all : length lent ≤ ticks → WorkedAll s rows (length lent) (Ok failing) outputs
   after-all l =
       let e : ticks ≡ length lent = omega (arith, d.within) in
       record {
-        answer = λ X m. ap Finished ((d.means X m).0 ∙ ap (failing_ticks s X) e);
+        answer = λ X m. ap Ok ((d.means X m).0 ∙ ap (failing_ticks s X) e);
         outputs = λ X m. (d.means X m).1 ∙ write_all (gather (λ t. true) (λ t. X t 0) ticks) lent ticks l ∙ ap (gather (λ t. true) (λ t. X t 0)) e;
       }

@@ -1,8 +1,8 @@
 -- The operations Start, Tick and Run of document 01: their rules, their answers, and the end contents of every lent slice.
-use Rattle.std.specs.Prelude.{ℕ, ◌*◌, ◌≡◌, true, List, ltb, ℤ, pos, length, Result}
+use Rattle.std.specs.Prelude.{ℕ, ◌*◌, ◌≡◌, true, List, ltb, ℤ, pos, length, Result, Ok}
 use Rattle.finite.specs.Lists.{gather}
 use Rattle.table.specs.Equations.{at}
-use Rattle.sheet.specs.Ruling.{Ruling, passed, refused, rule, lent, lent_place, ◌then◌, told, at_end, Outcome, accepted, turned, answer, number_of, place_of}
+use Rattle.sheet.specs.Ruling.{Ruling, passed, refused, rule, lent, lent_place, ◌then◌, told, said, at_end, turned, answer}
 use Rattle.sheet.specs.Bytes.{nodes, columns}
 use Rattle.sheet.specs.declared.Lent.TheVariants.{Rows, Cells, Order, Values, Outputs}
 use Rattle.sheet.specs.declared.Refusal.{Refusal}
@@ -14,10 +14,6 @@ use Rattle.meaning.specs.Verdicts.{failures, lowest_failing, failing_ticks}
 use Rattle.meaning.specs.Cells.{start_cells, next_cells, held}
 use Rattle.engine.specs.Rows.{row_rule, cell_rule, row_at}
 use Rattle.engine.specs.declared.Answer.{Answer}
-use Rattle.engine.specs.declared.Ticked.{Ticked}
-use Rattle.engine.specs.declared.Ticked.TheVariants.{Done, Refused}
-use Rattle.engine.specs.declared.Ran.{Ran}
-use Rattle.engine.specs.declared.Ran.TheVariants.{Finished, Refused as NotRun}
 
 -- "256 rows in one run"
 abbrev pub max_rows : ℕ
@@ -51,11 +47,6 @@ tick_rules s row cells order values = rules s then tick_tests s row cells order 
 unfoldable pub answer_of : List ℕ → (v : ℕ → ℤ) → Answer
 answer_of s v = record { root = v 0; failures = failures s v; lowest = lowest_failing s v }
 
--- a tick's answer in document 01's numbers
-abbrev pub said_tick : Ticked → Outcome Answer
-said_tick (Done a) = accepted a
-said_tick (Refused r) = turned (number_of r) (place_of r)
-
 -- the slices after a tick: the values of the rules with each FBY's value read from its slot, and the cells replaced
 pub record Worked (s : List ℕ) (row before cells' values' : List ℤ) : Type 0 where
   pub size : length values' ≡ nodes s
@@ -66,8 +57,8 @@ abbrev pub TickLeft : Ruling → (s : List ℕ) (row cells values cells' values'
 TickLeft passed s row cells values cells' values' = Worked s row cells cells' values'
 TickLeft (refused number place) s row cells values cells' values' = (cells' ≡ cells) × (values' ≡ values)
 
-pub record Tick (s : List ℕ) (row cells : List ℤ) (order : List ℕ) (values : List ℤ) (r : Ticked) (cells' values' : List ℤ) : Type 0 where
-  pub answer : said_tick r ≡ answer (tick_rules s row cells order (length values)) (answer_of s (at (pos 0) values'))
+pub record Tick (s : List ℕ) (row cells : List ℤ) (order : List ℕ) (values : List ℤ) (r : Result Answer Refusal) (cells' values' : List ℤ) : Type 0 where
+  pub answer : said r ≡ answer (tick_rules s row cells order (length values)) (answer_of s (at (pos 0) values'))
   pub left : TickLeft (tick_rules s row cells order (length values)) s row cells values cells' values'
 
 -- RUN
@@ -79,21 +70,16 @@ run_tests s rows T = lent Rows (length rows) (T * columns s) then rule (ltb max_
 unfoldable pub run_rules : List ℕ → (rows : List ℤ) → (T : ℕ) → Ruling
 run_rules s rows T = rules s then run_tests s rows T
 
--- a run's answer in document 01's numbers
-abbrev pub said_run : Ran → Outcome ℕ
-said_run (Finished failing) = accepted failing
-said_run (NotRun r) = turned (number_of r) (place_of r)
-
 -- the end of a run that no rule refuses: whatever values meet the equations (of a sound sheet exactly one set does: `meaning` in proofs/Demands),
 -- their failing ticks are counted, and their roots are the outputs
-pub record WorkedAll (s : List ℕ) (rows : List ℤ) (T : ℕ) (r : Ran) (new : List ℤ) : Type 0 where
-  pub answer : (X : ℕ → ℕ → ℤ) → Means s (row_at s rows) X → r ≡ Finished (failing_ticks s X T)
+pub record WorkedAll (s : List ℕ) (rows : List ℤ) (T : ℕ) (r : Result ℕ Refusal) (new : List ℤ) : Type 0 where
+  pub answer : (X : ℕ → ℕ → ℤ) → Means s (row_at s rows) X → r ≡ Ok (failing_ticks s X T)
   pub outputs : (X : ℕ → ℕ → ℤ) → Means s (row_at s rows) X → new ≡ gather (λ t. true) (λ t. X t 0) T
 
 -- a refusal names no values: a refused sheet may have none that meet the equations
-abbrev pub RunLeft : Ruling → (s : List ℕ) (rows old : List ℤ) (r : Ran) (new : List ℤ) → Type 0
+abbrev pub RunLeft : Ruling → (s : List ℕ) (rows old : List ℤ) (r : Result ℕ Refusal) (new : List ℤ) → Type 0
 RunLeft passed s rows old r new = WorkedAll s rows (length old) r new
-RunLeft (refused number place) s rows old r new = (said_run r ≡ turned number place) × (new ≡ old)
+RunLeft (refused number place) s rows old r new = (said r ≡ turned number place) × (new ≡ old)
 
-pub record Run (s : List ℕ) (rows old : List ℤ) (r : Ran) (new : List ℤ) : Type 0 where
+pub record Run (s : List ℕ) (rows old : List ℤ) (r : Result ℕ Refusal) (new : List ℤ) : Type 0 where
   pub left : RunLeft (run_rules s rows (length old)) s rows old r new

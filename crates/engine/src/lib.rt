@@ -33,18 +33,6 @@ pub struct Answer {
     pub lowest: Option<(Node, Verdict)>,
 }
 
-#[derive(Clone, Copy)]
-pub enum Ticked {
-    Done(Answer),
-    Refused(Refusal),
-}
-
-#[derive(Clone, Copy)]
-pub enum Ran {
-    Finished(usize),
-    Refused(Refusal),
-}
-
 // A run: the ticks so far, and how many of them had a verdict other than PASS.
 #[derive(Clone, Copy)]
 pub struct RunState {
@@ -329,7 +317,7 @@ impl<'a> Accepted<'a> {
         requires cells_len { length cells.old ≡ slots self.s.now }
         requires values_len { length values.old ≡ nodes self.s.now }
         requires rows_len { (length rows.now ≡ length outputs.old * columns self.s.now) × (length outputs.old ≤ operations.max_rows) }
-        ensures { operations.WorkedAll self.entry.s.now rows.now (length outputs.old) (Ran.Finished result) outputs.new }
+        ensures { operations.WorkedAll self.entry.s.now rows.now (length outputs.old) (Ok result) outputs.new }
     {
         order::fill_house(self.s, self.ends, order);
         fill_start(self.s, cells);
@@ -452,60 +440,52 @@ pub fn start(s: &[u8], cells: &mut [i32]) -> Result<(), Refusal>
 
 // TICK
 
-pub fn tick(s: &[u8], row: &[i32], cells: &mut [i32], order: &[u16], values: &mut [i32]) -> Ticked
+pub fn tick(
+    s: &[u8],
+    row: &[i32],
+    cells: &mut [i32],
+    order: &[u16],
+    values: &mut [i32],
+) -> Result<Answer, Refusal>
     ensures { operations.Tick s.now row.now cells.old order.now values.old result cells.new values.new }
 {
     let mut ends = Sheet::fresh();
     let mut slotted = Sheet::fresh();
-    let checked = rules::judge(s, &mut ends, &mut slotted);
-    match checked {
-        Err(r) => Ticked::Refused(r),
-        Ok(z) => {
-            if let Err(r) = test_tick(s, z, &ends, row, &*cells, order, values.len()) {
-                return Ticked::Refused(r);
-            }
-            let accepted = Accepted {
-                s,
-                ends: &ends,
-                slotted: &slotted,
-            };
-            accepted.step(row, order, cells, values);
-            Ticked::Done(accepted.answer(&*values))
-        }
-    }
+    let z = rules::judge(s, &mut ends, &mut slotted)?;
+    test_tick(s, z, &ends, row, &*cells, order, values.len())?;
+    let accepted = Accepted {
+        s,
+        ends: &ends,
+        slotted: &slotted,
+    };
+    accepted.step(row, order, cells, values);
+    Ok(accepted.answer(&*values))
 }
 
 // RUN
 
-pub fn run(s: &[u8], rows: &[i32], outputs: &mut [i32]) -> Ran
+pub fn run(s: &[u8], rows: &[i32], outputs: &mut [i32]) -> Result<usize, Refusal>
     ensures { operations.Run s.now rows.now outputs.old result outputs.new }
 {
     let mut ends = Sheet::fresh();
     let mut slotted = Sheet::fresh();
-    let checked = rules::judge(s, &mut ends, &mut slotted);
-    match checked {
-        Err(r) => Ran::Refused(r),
-        Ok(z) => {
-            if let Err(r) = test_run(s, rows, outputs.len()) {
-                return Ran::Refused(r);
-            }
-            let accepted = Accepted {
-                s,
-                ends: &ends,
-                slotted: &slotted,
-            };
-            let mut order = Sheet::fresh();
-            let mut cells = RunState::cells();
-            let mut values = RunState::values();
-            let n = z.nodes;
-            let k = z.slots;
-            Ran::Finished(accepted.run_rows(
-                rows,
-                &mut order[..n],
-                &mut cells[..k],
-                &mut values[..n],
-                outputs,
-            ))
-        }
-    }
+    let z = rules::judge(s, &mut ends, &mut slotted)?;
+    test_run(s, rows, outputs.len())?;
+    let accepted = Accepted {
+        s,
+        ends: &ends,
+        slotted: &slotted,
+    };
+    let mut order = Sheet::fresh();
+    let mut cells = RunState::cells();
+    let mut values = RunState::values();
+    let n = z.nodes;
+    let k = z.slots;
+    Ok(accepted.run_rows(
+        rows,
+        &mut order[..n],
+        &mut cells[..k],
+        &mut values[..n],
+        outputs,
+    ))
 }

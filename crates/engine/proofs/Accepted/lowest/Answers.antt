@@ -1,29 +1,26 @@
--- The lowest of all the nodes that fail is the lowest of those left.
-use Rattle.std.proofs.Common.{◌<◌, ◌≤◌, ◌∙◌, arith, lt-ltb, le-ltb}
-use Rattle.finite.proofs.LowestLaws.{lowest_start, lowest_here, lowest-next, lowest-end}
+-- The first node that fails is the lowest, and where none does, there is none.
+use Rattle.std.proofs.Common.{◌+◌, ◌<◌, ◌∙◌, zero-le, arith, lt-ltb, le-ltb, below_more}
+use Rattle.finite.proofs.LowestLaws.{lowest-is, lowest_none}
 use Rattle.sheet.specs.Bytes.{nodes}
 use Rattle.meaning.specs.Verdicts.{lowest_failing}
 use Rattle.engine.proofs.FunctionLaws.{fails, fails_is}
 use Rattle.engine.proofs.Accepted.lowest.Goals as goal
 
-pub loop-i-init : goal.loop-i-init
-loop-i-init c = lowest_start _ _ _ _ (omega arith)
-
 pub returns-then-ne : goal.returns-then-ne
 unfolding lowest_failing
 returns-then-ne c =
-    let l : c.loop-i.i < nodes c.args.self.s.now = omega arith in
-    let found = fails_is c.args.self.s.now c.args.values.now c.loop-i.i _ _ c.verdict_of-verdict.ensures c.ne.ensures ∙ c.if-ne.true in
-    rw (c.loop-i.invariant ∙ lowest_here _ _ _ l found, lt-ltb _ _ l, ← c.verdict_of-verdict.ensures)
+    let s = c.args.self.s.now in
+    let l : c.loop-i.i < nodes s = omega arith in
+    let found = fails_is s c.args.values.now c.loop-i.i _ _ c.verdict_of-verdict.ensures c.ne.ensures ∙ c.if-ne.true in
+    rw (lowest-is _ 0 (nodes s) _ zero-le (omega arith) found (λ j _ u. c.loop-i.invariant j u), lt-ltb _ _ l, ← c.verdict_of-verdict.ensures)
 
 pub loop-i-preserved : goal.loop-i-preserved
 loop-i-preserved c =
-    let l : c.loop-i.i < nodes c.args.self.s.now = omega arith in
-    let found = fails_is c.args.self.s.now c.args.values.now c.loop-i.i _ _ c.verdict_of-verdict.ensures c.ne.ensures ∙ c.if-ne.false in
-    c.loop-i.invariant ∙ lowest-next _ _ _ l found
+    below_more _ _ c.loop-i.invariant
+    (fails_is c.args.self.s.now c.args.values.now c.loop-i.i _ _ c.verdict_of-verdict.ensures c.ne.ensures ∙ c.if-ne.false)
 
 pub returns : goal.returns
 unfolding lowest_failing
 returns c =
-    let l : nodes c.args.self.s.now ≤ c.loop-i.i = omega arith in
-    rw (c.loop-i.invariant ∙ lowest-end (fails c.args.self.s.now c.args.values.now) _ _ l, le-ltb _ _ l)
+    let s = c.args.self.s.now in
+    rw (lowest_none (fails s c.args.values.now) 0 (nodes s) (λ j _ u. c.loop-i.invariant j (omega arith)), le-ltb (0 + nodes s) (nodes s) (omega arith))
