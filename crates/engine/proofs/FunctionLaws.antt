@@ -1,13 +1,20 @@
 -- Laws that several functions' proofs cite: the nodes that fail, and what needs of an accepted sheet are looked up by.
-use Prim.Native.Nat.{ℕ}
+use Prim.Native.Nat.{ℕ, ◌≤◌, ◌<◌}
 use mathlib.Core.Path.{◌≡◌, refl}
 use mathlib.Core.Bool.{Bool, true, false, not}
 use mathlib.Core.List.{List}
+use native.Mathlib.Omega.{arith}
 use lib.IntN.{ℤ, pos}
+use borrow.Author.Tests.{ltb-true, not-false}
 use denote.Enum.Bare.{sameb}
 use Rattle.finite.proofs.Tests.{not-both}
 use Rattle.table.specs.Equations.{at}
+use Rattle.sheet.specs.Ceilings.{max_nodes}
 use Rattle.sheet.specs.Ruling.{Ruling, passed, refused, passes}
+use Rattle.sheet.specs.Bytes.{nodes, columns, kind_at, argument, arity, operand, operand_by}
+use Rattle.sheet.specs.Form.{known, bad_record}
+use Rattle.sheet.specs.declared.Kind.TheVariants.{Input}
+use Rattle.sheet.proofs.SheetLaws.{operand_by_table}
 use Rattle.rules.specs.Check.{rules}
 use Rattle.rules.proofs.CheckLaws.{rules_exactly}
 use Rattle.order.specs.Needs.{Given}
@@ -34,3 +41,19 @@ passed_by (refused number place) p = absurd (not-both false p refl)
 -- what needs are looked up by
 pub given : (a : Accepted) → Given a.s.now a.ends.now
 given a = record { sound = (rules_exactly a.s.now).0 (passed_by (rules a.s.now) a.accepted); ends = a.ended }
+
+module _ (a : Accepted) where
+  pub few : nodes a.s.now ≤ max_nodes
+  few = (given a).sound.formed.few
+
+  module _ (i : ℕ) where
+    pub operand_is : (k : ℕ) → i < nodes a.s.now → k < arity (kind_at a.s.now i) → operand_by a.ends.now i k ≡ operand a.s.now i k
+    operand_is k h l = operand_by_table (given a).sound.formed a.ends.now a.ended i h k l
+
+    -- an INPUT names a column
+    pub input_small : i < nodes a.s.now → kind_at a.s.now i ≡ Input → argument a.s.now i < 65536
+    unfolding bad_record known
+    input_small h e =
+        let s = a.s.now in
+        let f = (given a).sound.formed in
+        omega (arith, f.narrow, ltb-true (argument s i) (columns s) (rw e at (not-false (known (columns s) (kind_at s i) (argument s i)) (f.records i h))))

@@ -151,6 +151,7 @@ struct Accepted<'a> {
 
 impl<'a> Accepted<'a> {
     // How many nodes there are.
+    #[tactic(auto, using(crate::proofs::FunctionLaws::few))]
     fn nodes(self) -> u16
         ensures { result ≡ nodes self.entry.s.now }
     {
@@ -159,6 +160,7 @@ impl<'a> Accepted<'a> {
 
     // The values of operand k and of need k of a node, k from 0.
 
+    #[tactic(auto, using(crate::proofs::FunctionLaws::few, crate::proofs::FunctionLaws::operand_is))]
     fn operand(self, values: &[i32], i: Node, k: usize) -> i32
         requires { i.0 < nodes self.s.now }
         ensures { k < arity (kind_at self.entry.s.now i.0) → result ≡ at (pos 0) values.now (operand self.entry.s.now i.0 k) }
@@ -181,6 +183,7 @@ impl<'a> Accepted<'a> {
         Slot(slotted.get(sheet::index(i)).copied().unwrap_or(0))
     }
 
+    #[tactic(auto, using(crate::proofs::FunctionLaws::input_small), unfolding(order::specs::Needs::needs, order::specs::Needs::needs_by, meaning::specs::Local::local_value, meaning::specs::Local::local_by, meaning::specs::Equations::value_by, sheet::specs::Bytes::is_var, meaning::specs::Cells::held))]
     // One node's value, from the row, the cells and the values of its needs.
     fn value(self, row: &[i32], cells: &[i32], values: &[i32], i: Node) -> i32
         requires { i.0 < nodes self.s.now }
@@ -196,8 +199,10 @@ impl<'a> Accepted<'a> {
                 number::apply(o, a, b, c)
             }
             Kind::Fby(_) => cell(cells, self.slot(i)),
+            Kind::Var | Kind::Rec(_) | Kind::Let | Kind::Check | Kind::Contract => {
+                self.need(values, i, 0)
+            }
             Kind::Unknown => 0,
-            _ => self.need(values, i, 0),
         }
     }
 
@@ -215,6 +220,7 @@ impl<'a> Accepted<'a> {
     }
 
     // Each slot gets its FBY's operand's value.
+    #[tactic(auto, using(crate::proofs::FunctionLaws::few))]
     fn store(self, values: &[i32], cells: &mut [i32])
         requires { length cells.old ≡ slots self.s.now }
         ensures { cells.new ≡ next_cells self.entry.s.now (at (pos 0) values.now) }
@@ -242,6 +248,7 @@ impl<'a> Accepted<'a> {
         number::truth(self.operand(values, i, k))
     }
 
+    #[tactic(auto, unfolding(meaning::specs::Verdicts::verdict, meaning::specs::Verdicts::verdict_by, sheet::specs::Bytes::arity))]
     fn verdict_of(self, values: &[i32], i: Node) -> Verdict
         requires { i.0 < nodes self.s.now }
         ensures { result ≡ verdicts.verdict self.entry.s.now (at (pos 0) values.now) i.0 }
@@ -267,6 +274,7 @@ impl<'a> Accepted<'a> {
         }
     }
 
+    #[tactic(auto, using(crate::proofs::FunctionLaws::fails_is, finite::proofs::CountLaws::count_step_yes, finite::proofs::CountLaws::count_step_no, finite::proofs::CountLaws::count_le), unfolding(meaning::specs::Verdicts::failures))]
     fn failures(self, values: &[i32]) -> usize
         ensures { result ≡ verdicts.failures self.entry.s.now (at (pos 0) values.now) }
     {
@@ -279,6 +287,7 @@ impl<'a> Accepted<'a> {
         count
     }
 
+    #[tactic(auto, using(crate::proofs::FunctionLaws::fails_is))]
     fn lowest(self, values: &[i32]) -> Option<(Node, Verdict)>
         ensures { result ≡ verdicts.lowest_failing self.entry.s.now (at (pos 0) values.now) }
     {
@@ -305,6 +314,7 @@ impl<'a> Accepted<'a> {
     }
 
     // The ticks of a run, from fresh cells in the house order, over slices of the right lengths.
+    #[tactic(auto, using(crate::proofs::FunctionLaws::few))]
     fn run_rows(
         self,
         rows: &[i32],

@@ -14,11 +14,6 @@ returns-then-ne c =
     let found = fails_is s c.args.values.now c.loop-i.i _ _ c.verdict_of-verdict.ensures c.ne.ensures ∙ c.if-ne.true in
     rw (lowest-is _ 0 (nodes s) _ zero-le (omega arith) found (λ j _ u. c.loop-i.invariant j u), lt-ltb _ _ l, ← c.verdict_of-verdict.ensures)
 
-pub loop-i-preserved : goal.loop-i-preserved
-loop-i-preserved c =
-    below_more _ _ c.loop-i.invariant
-    (fails_is c.args.self.s.now c.args.values.now c.loop-i.i _ _ c.verdict_of-verdict.ensures c.ne.ensures ∙ c.if-ne.false)
-
 pub returns : goal.returns
 unfolding lowest_failing
 returns c =

@@ -6,9 +6,6 @@ use Rattle.engine.proofs.FunctionLaws.{given}
 use Rattle.engine.proofs.RunLaws.{row_is, after_none, after_more, after-all}
 use Rattle.engine.proofs.Accepted.run_rows.Goals as goal
 
-pub fill_start-requires-clause-s_bound : goal.fill_start-requires-clause-s_bound
-fill_start-requires-clause-s_bound c = (given c.args.self).sound.formed.few
-
 pub loop-t-init : goal.loop-t-init
 loop-t-init c =
     let p = c.requires in

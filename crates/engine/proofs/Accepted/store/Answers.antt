@@ -12,9 +12,6 @@ has_operand : (s : List ℕ) (i : ℕ) → fby_at s i ≡ true → 0 < arity (ki
 unfolding arity
 has_operand s i e = rw (fby_kind (kind_at s i) e).1 (omega arith)
 
-pub fill-requires-clause-s_bound : goal.fill-requires-clause-s_bound
-fill-requires-clause-s_bound c = (given c.args.self).sound.formed.few
-
 pub returns : goal.returns
 unfolding next_cells
 returns c =

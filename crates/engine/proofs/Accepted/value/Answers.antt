@@ -20,11 +20,6 @@ use Rattle.meaning.specs.Cells.{held}
 use Rattle.engine.proofs.FunctionLaws.{given}
 use Rattle.engine.proofs.Accepted.value.Goals as goal
 
--- an INPUT names a column
-column : {s : List ℕ} → Formed s → (i : ℕ) → i < nodes s → kind_at s i ≡ Input → argument s i < columns s
-unfolding bad_record known
-column {s} f i h e = ltb-true _ _ (rw e at (not-false (known (columns s) (kind_at s i) (argument s i)) (f.records i h)))
-
 -- the value of need k, of a node of a kind
 need_value : (s : List ℕ) (i : ℕ) (kind : Kind) → kind_at s i ≡ kind → (v : ℕ → ℤ) (k : ℕ) (x : ℤ) → mag x < 2147483648
     → (k < need_count (kind_at s i) → x ≡ v (get_or (needs_of s i) k 0)) → k < need_count kind → to_z w32 (of_z w32 x) ≡ v (need_by s i kind k)
@@ -42,33 +37,6 @@ operated o y p q r first second third = applied-same o (λ k. get_or (p ∷ q �
     same (suc (suc zero)) l = third l
     same (suc (suc (suc k))) l = refl
 
--- the last arm's kinds have the value of their one need
-needed : (s : List ℕ) (row : List ℤ) (d : ℤ) (v : ℕ → ℤ) (i : ℕ) (kind : Kind)
-    → ((t : ValueType) → kind ≡ Const t → ⊥) → (kind ≡ Input → ⊥) → ((o : Operator) → kind ≡ Op o → ⊥) → ((t : ValueType) → kind ≡ Fby t → ⊥) → (kind ≡ Unknown → ⊥)
-    → (0 < need_count kind) × (v (need_by s i kind 0) ≡ local_by s row d v i kind)
-unfolding local_by value_by is_var
-needed s row d v i (Const t) c n o f u = absurd (c t refl)
-needed s row d v i Input c n o f u = absurd (n refl)
-needed s row d v i Var c n o f u = (omega arith, refl)
-needed s row d v i (Op p) c n o f u = absurd (o p refl)
-needed s row d v i (Fby t) c n o f u = absurd (f t refl)
-needed s row d v i (Rec t) c n o f u = (omega arith, refl)
-needed s row d v i Let c n o f u = (omega arith, refl)
-needed s row d v i Check c n o f u = (omega arith, refl)
-needed s row d v i Contract c n o f u = (omega arith, refl)
-needed s row d v i Unknown c n o f u = absurd (u refl)
-
-pub returns-in-Const : goal.returns-in-Const
-unfolding local_value local_by value_by is_var
-returns-in-Const c = rw (← c.in-Const.ensures) (back_ok c.literal.type_inv ∙ c.literal.ensures)
-
-pub returns-in-Input : goal.returns-in-Input
-unfolding local_value local_by value_by is_var
-returns-in-Input c =
-    let f = (given c.args.self).sound.formed in
-    let b = c.input_column.ensures (omega (arith, column f _ c.requires (sym c.in-Input.ensures), f.narrow)) in
-    rw (← c.in-Input.ensures) (back_ok c.input.type_inv ∙ (rw b at c.input.ensures))
-
 pub returns-in-Op : goal.returns-in-Op
 unfolding local_value local_by value_by is_var
 returns-in-Op c =
@@ -79,20 +47,3 @@ returns-in-Op c =
     ∙ operated _ (λ k. v (operand a.self.s.now a.i.0 k)) _ _ _
     (need 0 _ c.need-a.type_inv c.need-a.ensures) (need 1 _ c.need-b.type_inv c.need-b.ensures) (need 2 _ c.need-c.type_inv c.need-c.ensures))
 
-pub returns-in-Fby : goal.returns-in-Fby
-unfolding local_value local_by value_by is_var held
-returns-in-Fby c = rw (← c.in-Fby.ensures) (back_ok c.cell.type_inv ∙ (rw c.slot.ensures at c.cell.ensures))
-
-pub returns-in-Unknown : goal.returns-in-Unknown
-unfolding local_value local_by value_by is_var
-returns-in-Unknown c = rw (← c.in-Unknown.ensures)
-
-pub returns-in_default : goal.returns-in_default
-unfolding local_value
-returns-in_default c =
-    let a = c.args in
-    let d = c.in_default in
-    let e = sym c.kind_at.ensures in
-    let v : ℕ → ℤ = at (pos 0) a.values.now in
-    let q = needed a.self.s.now a.row.now _ v a.i.0 _ d.not-Const d.not-Input d.not-Op d.not-Fby d.not-Unknown in
-    need_value _ _ _ e v 0 _ c.need.type_inv c.need.ensures q.0 ∙ rw e q.1
