@@ -52,11 +52,11 @@ module _ (s : List ℕ) (z : Sheet) (e : accepted z ≡ check s) where
   unfolding sheet
   slots_by = ap (λ (x : Sheet). x.slots) size_by
 
-  pub nodes-few : z.nodes ≤ max_nodes
-  nodes-few = omega (arith, nodes_by, sound_by.formed.few)
+  pub few_nodes : z.nodes ≤ max_nodes
+  few_nodes = omega (arith, nodes_by, sound_by.formed.few)
 
-  pub slots-few : z.slots ≤ max_slots
-  slots-few = omega (arith, slots_by, sound_by.few)
+  pub few_slots : z.slots ≤ max_slots
+  few_slots = omega (arith, slots_by, sound_by.few)
 
 -- a part of a local array, from its start
 pub length_part : {A : Type 0} (xs : List A) (n max : ℕ) → n ≤ max → length xs ≡ max → length (take n xs) ≡ n

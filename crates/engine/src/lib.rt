@@ -105,6 +105,7 @@ fn input(row: &[i32], c: Column) -> i32
 }
 
 // A node's constant or first value.
+#[tactic(auto, unfolding(meaning::specs::Equations::literal))]
 fn literal(s: &[u8], i: Node) -> i32
     ensures { result ≡ equations.literal s.now i.0 }
 {
@@ -207,6 +208,7 @@ impl<'a> Accepted<'a> {
     }
 
     // Every node's value, worked in a right order.
+    #[tactic(auto, unfolding(table::specs::Equations::work))]
     fn work_nodes(self, row: &[i32], cells: &[i32], order: &[u16], values: &mut [i32])
         requires right_order { RightOrder self.s.now order.now }
         requires values_len { length values.old ≡ nodes self.s.now }
@@ -300,6 +302,7 @@ impl<'a> Accepted<'a> {
         None
     }
 
+    #[tactic(auto, unfolding(crate::specs::Operations::answer_of))]
     fn answer(self, values: &[i32]) -> Answer
         ensures { result ≡ operations.answer_of self.entry.s.now (at (pos 0) values.now) }
     {
@@ -474,6 +477,7 @@ pub fn tick(
 
 // RUN
 
+#[tactic(auto, using(crate::proofs::OperationLaws::few_nodes, crate::proofs::OperationLaws::few_slots, crate::proofs::OperationLaws::length_part, crate::proofs::OperationLaws::run_refused, crate::proofs::OperationLaws::run_turned))]
 pub fn run(s: &[u8], rows: &[i32], outputs: &mut [i32]) -> Result<usize, Refusal>
     ensures { operations.Run s.now rows.now outputs.old result outputs.new }
 {

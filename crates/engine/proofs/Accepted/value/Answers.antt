@@ -46,4 +46,3 @@ returns-in-Op c =
     rw (← c.in-Op.ensures) (back_ok c.apply.type_inv ∙ c.apply.ensures
     ∙ operated _ (λ k. v (operand a.self.s.now a.i.0 k)) _ _ _
     (need 0 _ c.need-a.type_inv c.need-a.ensures) (need 1 _ c.need-b.type_inv c.need-b.ensures) (need 2 _ c.need-c.type_inv c.need-c.ensures))
-

@@ -14,21 +14,9 @@ turn : (rhs : ℕ → (ℕ → ℤ) → ℤ) (order : List ℕ) (p : ℕ) (lent 
     → k ≡ get_or order p 0 → v ≡ rhs (get_or order p 0) (at (pos 0) old) → set old k v ≡ work (pos 0) rhs (take (p + 1) order) lent
 turn rhs order p lent old k v l worked i e = rw (i, e, worked) (sym (work-more (pos 0) rhs order p lent l))
 
-pub loop-at-init : goal.loop-at-init
-unfolding work
-loop-at-init c = refl
-
-pub bounds-values-index : goal.bounds-values-index
-bounds-values-index c = rw c.index.ensures (omega (arith, c.requires.right_order.nodes c.loop-at.at-index (omega (arith, c.requires.right_order.entries))))
-
 pub loop-at-preserved : goal.loop-at-preserved
 loop-at-preserved c =
     let a = c.args in
     let s = a.self.s.now in
     turn (sides s a.row.now (held s a.cells.now)) a.order.now c.loop-at.at-index a.values.now _ _ _ c.loop-at-test.true c.loop-at.invariant c.index.ensures
     (back_ok c.value-value.type_inv ∙ c.value-value.ensures)
-
-pub returns : goal.returns
-returns c =
-    let all : length c.args.order.now ≤ c.loop-at.at-index = omega arith in
-    rw (take_all _ _ all) at c.loop-at.invariant
