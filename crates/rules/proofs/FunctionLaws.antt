@@ -1,20 +1,17 @@
 -- What functions' proofs cite: what a refusal says of Check, and the table of how many nodes stand above each while it is filled.
 use Prim.Native.Nat.{ℕ, ◌<◌}
 use mathlib.Core.Path.{◌≡◌}
-use mathlib.Core.Bool.{Bool, true}
+use mathlib.Core.Bool.{Bool}
 use mathlib.Core.List.{List}
-use native.Mathlib.Omega.{arith}
 use lib.ListN.{get_or}
 use Rattle.std.proofs.Common.{Result, Ok, Err}
 use Rattle.std.specs.Result.{IsErrAnd}
 use Rattle.sheet.specs.Ruling.{refused, answer, number_of, place_of, said}
-use Rattle.sheet.specs.Bytes.{nodes, kind_at, argument, arity_at, is_var, operand}
-use Rattle.sheet.specs.Form.{Formed}
+use Rattle.sheet.specs.Bytes.{arity_at, operand}
 use Rattle.sheet.specs.declared.Refusal.{Refusal}
 use Rattle.sheet.specs.declared.Sheet.{Sheet}
 use Rattle.rules.specs.Scope.{over}
-use Rattle.rules.specs.Check.{Scoped, rules, check}
-use Rattle.rules.proofs.GuardLaws.{scoped-is}
+use Rattle.rules.specs.Check.{rules, check}
 
 -- a refusal by the rules, handed on, is Check's answer
 pub turned_away : (s : List ℕ) (x : Refusal) (r : Result Sheet Refusal) → IsErrAnd r (λ y. y ≡ x) → refused (number_of x) (place_of x) ≡ rules s → said r ≡ check s

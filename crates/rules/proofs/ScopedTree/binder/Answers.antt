@@ -1,6 +1,5 @@
 -- What a VAR names is a node, so that its number is not cut.
-use Rattle.std.proofs.Common.{◌≡◌, ◌<◌, arith}
-use Rattle.sheet.specs.Bytes.{nodes, argument}
+use Rattle.std.proofs.Common.{arith}
 use Rattle.rules.proofs.GuardLaws.{scoped-is}
 use Rattle.rules.proofs.ScopedTree.binder.Goals as goal
 

@@ -1,11 +1,10 @@
 -- Each arm reads what the definition's clause of its kind goes by.
 use Rattle.std.proofs.Common.{◌≡◌, ℕ, ◌<◌, List, sym, ap, ◌∙◌, ltb-true, arith}
 use borrow.Author.Tests.{not-false}
-use Rattle.sheet.specs.Bytes.{nodes, columns, kind_at, argument, column_type, arity, is_var}
+use Rattle.sheet.specs.Bytes.{nodes, columns, kind_at, argument, column_type, arity}
 use Rattle.sheet.specs.Form.{Formed, known, bad_record}
-use Rattle.sheet.specs.declared.Kind.TheVariants.{Input, Var}
-use Rattle.rules.specs.Check.{Scoped}
-use Rattle.rules.specs.Types.{named_type, type_in, type_by}
+use Rattle.sheet.specs.declared.Kind.TheVariants.{Input}
+use Rattle.rules.specs.Types.{type_by}
 use Rattle.rules.proofs.TypeLaws.{operator_local}
 use Rattle.rules.proofs.ScopedTree.type_by.Goals as goal
 

@@ -1,5 +1,5 @@
 -- More FBYs stand above the VAR than above the REC exactly when one stands between.
-use Rattle.std.proofs.Common.{◌≡◌, ℕ, ◌<◌, true, false, not, leb, ltb, get_or, ◌∙◌, sym, ltb-true, ltb-false, arith}
+use Rattle.std.proofs.Common.{◌≡◌, ℕ, ◌<◌, true, false, not, leb, ltb, get_or, ◌∙◌, sym, ltb-true, ltb-false}
 use borrow.Author.Tests.{le-leb, lt-leb}
 use Rattle.finite.proofs.Tests.{by-test}
 use Rattle.sheet.specs.Bytes.{nodes, kind_at, argument, is_var}
