@@ -1,9 +1,9 @@
 // Reads a buffer full, or as far as the input goes.
 #![tactic(auto)]
 
-ghost use Rattle.std.specs.Prelude.{◌≡◌, ℕ, ◌<◌, ◌≤◌, IfOk, OnErr, length, take};
+ghost use Rattle.std.specs.Prelude.{◌≡◌, ℕ, ◌<◌, ◌≤◌, IfOk, OnOk, OnErr, length, take};
 ghost use Rattle.std.specs.Io.{ReadsAtMost};
-ghost use Rattle.std.specs.Io.KnownBytes.{Consumes, IsAtEnd};
+ghost use Rattle.std.specs.Io.KnownBytes.{Consumes, IsAtEnd, Appends};
 
 use std::io;
 
@@ -26,4 +26,22 @@ pub fn read_full<R: io::Read>(from: &mut R, buf: &mut [u8]) -> io::Result<usize>
         done += n;
     }
     Ok(done)
+}
+
+// A program that prints what `print` makes of its input: it reads as much as `input` holds, lends that and the room `text` to `print`, and
+// writes as many bytes of the room as `print` answers.
+pub fn filter<R: io::Read, W: io::Write, F: FnOnce(&[u8], &mut [u8]) -> usize>(
+    from: &mut R,
+    to: &mut W,
+    input: &mut [u8],
+    text: &mut [u8],
+    print: F,
+) -> io::Result<()>
+    requires callable { F.IsAlwaysCallable print }
+    requires inside { (input : _) (text : _) (n : _) (after : _) → F.post print input text n after → n ≤ length after.now }
+    ensures written { OnOk result ((bytes : _) × (room : _) × (n : _) × (after : _) × Consumes (R.remaining from.old) (R.remaining from.new) bytes.now × (length bytes.now < length input.old → IsAtEnd (R.remaining from.new)) × F.post print bytes room n after × Appends (W.contents to.old) (W.contents to.new) (take n after.now)) }
+{
+    let n = read_full(from, input)?;
+    let r = print(&input[..n], text);
+    to.write_all(&text[..r])
 }
