@@ -148,6 +148,8 @@ struct Tree<'a> {
     ghost ended: { bytes.Ends s.now ends.now },
 }
 
+// A Node is a number. That it is one of this sheet's (i_bound) is asked of each method that goes by a table there: whoever calls has just
+// taken it from the range of nodes, from operand or from binder, and a type of its own would have to be proved at each of these.
 impl<'a> Tree<'a> {
     fn kind(self, i: Node) -> Kind
         ensures { result ≡ bytes.kind_at self.entry.s.now i.0 }
@@ -177,7 +179,8 @@ impl<'a> Tree<'a> {
         Node(ends.get(sheet::index(i)).copied().unwrap_or(0))
     }
 
-    // How many nodes stand above each node: all, or the FBYs alone.
+    // How many nodes stand above each node: all, or the FBYs alone. Which, the flag of the definitions counted and Overs says: a closure
+    // in its place would need a contract that ties it to them.
 
     // A node's operands all get one number.
     fn hand_down(self, i: Node, over: u16, table: &mut [u16; Sheet::NODES])
