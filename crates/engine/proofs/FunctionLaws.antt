@@ -39,7 +39,7 @@ passed_by passed p = refl
 passed_by (refused number place) p = absurd (not-both false p refl)
 
 -- what needs are looked up by
-pub given : (a : Accepted) → Given a.s.now a.ends.now
+pub given : (a : Accepted) → Given a.s.now a.tables.now.ends
 given a = record { sound = (rules_exactly a.s.now).0 (passed_by (rules a.s.now) a.accepted); ends = a.ended }
 
 module _ (a : Accepted) where
@@ -47,8 +47,8 @@ module _ (a : Accepted) where
   few = (given a).sound.formed.few
 
   module _ (i : ℕ) where
-    pub operand_is : (k : ℕ) → i < nodes a.s.now → k < arity (kind_at a.s.now i) → operand_by a.ends.now i k ≡ operand a.s.now i k
-    operand_is k h l = operand_by_table (given a).sound.formed a.ends.now a.ended i h k l
+    pub operand_is : (k : ℕ) → i < nodes a.s.now → k < arity (kind_at a.s.now i) → operand_by a.tables.now.ends i k ≡ operand a.s.now i k
+    operand_is k h l = operand_by_table (given a).sound.formed a.tables.now.ends a.ended i h k l
 
     -- an INPUT names a column
     pub input_small : i < nodes a.s.now → kind_at a.s.now i ≡ Input → argument a.s.now i < 65536

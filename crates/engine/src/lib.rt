@@ -23,6 +23,7 @@ ghost use Rattle.engine.specs.Rows as faults;
 ghost use Rattle.engine.specs.Operations as operations;
 
 use meaning::Verdict;
+use rules::Tables;
 use sheet::{Column, Kind, Lent, Node, Refusal, Sheet, Slot, ValueType};
 
 // A tick's answer: the root's value, the count of nodes not PASS, and the lowest such node with its verdict, or that there is none.
@@ -139,15 +140,14 @@ fn fill_start(s: &[u8], cells: &mut [i32])
 
 // The work over an accepted sheet.
 
-// An accepted sheet, with the table of where each expression ends and the table of slots.
+// An accepted sheet with its tables.
 #[derive(Clone, Copy)]
 struct Accepted<'a> {
     s: &'a [u8],
-    ends: &'a [u16; Sheet::NODES],
-    slotted: &'a [u16; Sheet::NODES],
+    tables: &'a Tables,
     ghost accepted: { passes (rules s.now) ≡ true },
-    ghost ended: { Ends s.now ends.now },
-    ghost in_slots: { Slotted s.now slotted.now },
+    ghost ended: { Ends s.now tables.now.ends },
+    ghost in_slots: { Slotted s.now tables.now.slots },
 }
 
 impl<'a> Accepted<'a> {
@@ -166,22 +166,24 @@ impl<'a> Accepted<'a> {
         requires { i.0 < nodes self.s.now }
         ensures { k < arity (kind_at self.entry.s.now i.0) → result ≡ at (pos 0) values.now (operand self.entry.s.now i.0 k) }
     {
-        value_of(values, sheet::operand(self.ends, i, k))
+        let tables = self.tables;
+        value_of(values, sheet::operand(&tables.ends, i, k))
     }
 
     fn need(self, values: &[i32], i: Node, k: usize) -> i32
         requires { i.0 < nodes self.s.now }
         ensures { k < need_count (kind_at self.entry.s.now i.0) → result ≡ at (pos 0) values.now (get_or (needs self.entry.s.now i.0) k 0) }
     {
-        value_of(values, order::need(self.s, self.ends, i, k))
+        let tables = self.tables;
+        value_of(values, order::need(self.s, &tables.ends, i, k))
     }
 
     fn slot(self, i: Node) -> Slot
         requires { i.0 < nodes self.s.now }
         ensures { result.0 ≡ slot self.entry.s.now i.0 }
     {
-        let slotted = self.slotted;
-        Slot(slotted.get(sheet::index(i)).copied().unwrap_or(0))
+        let tables = self.tables;
+        Slot(tables.slots.get(sheet::index(i)).copied().unwrap_or(0))
     }
 
     #[tactic(auto, using(crate::proofs::FunctionLaws::input_small), unfolding(order::specs::Needs::needs, order::specs::Needs::needs_by, meaning::specs::Local::local_value, meaning::specs::Local::local_by, meaning::specs::Equations::value_by, sheet::specs::Bytes::is_var, meaning::specs::Cells::held))]
@@ -332,7 +334,8 @@ impl<'a> Accepted<'a> {
         requires rows_len { (length rows.now ≡ length outputs.old * columns self.s.now) × (length outputs.old ≤ operations.max_rows) }
         ensures { operations.WorkedAll self.entry.s.now rows.now (length outputs.old) (Ok result) outputs.new }
     {
-        order::fill_house(self.s, self.ends, order);
+        let tables = self.tables;
+        order::fill_house(self.s, &tables.ends, order);
         fill_start(self.s, cells);
         let columns = sheet::byte(self.s, 3) as usize;
         let mut run = RunState::fresh();
@@ -462,14 +465,12 @@ pub fn tick(
 ) -> Result<Answer, Refusal>
     ensures { operations.Tick s.now row.now cells.old order.now values.old result cells.new values.new }
 {
-    let mut ends = Sheet::fresh();
-    let mut slotted = Sheet::fresh();
-    let z = rules::judge(s, &mut ends, &mut slotted)?;
-    test_tick(s, z, &ends, row, &*cells, order, values.len())?;
+    let mut tables = Tables::fresh();
+    let z = rules::judge(s, &mut tables)?;
+    test_tick(s, z, &tables.ends, row, &*cells, order, values.len())?;
     let accepted = Accepted {
         s,
-        ends: &ends,
-        slotted: &slotted,
+        tables: &tables,
     };
     accepted.step(row, order, cells, values);
     Ok(accepted.answer(&*values))
@@ -481,14 +482,12 @@ pub fn tick(
 pub fn run(s: &[u8], rows: &[i32], outputs: &mut [i32]) -> Result<usize, Refusal>
     ensures { operations.Run s.now rows.now outputs.old result outputs.new }
 {
-    let mut ends = Sheet::fresh();
-    let mut slotted = Sheet::fresh();
-    let z = rules::judge(s, &mut ends, &mut slotted)?;
+    let mut tables = Tables::fresh();
+    let z = rules::judge(s, &mut tables)?;
     test_run(s, rows, outputs.len())?;
     let accepted = Accepted {
         s,
-        ends: &ends,
-        slotted: &slotted,
+        tables: &tables,
     };
     let mut order = Sheet::fresh();
     let mut cells = RunState::cells();

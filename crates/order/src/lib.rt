@@ -10,6 +10,7 @@ ghost use Rattle.sheet.specs.Bytes.{nodes, kind_at};
 ghost use Rattle.order.specs.Needs.{needs, named_need, need_count, Met, Given};
 ghost use Rattle.order.specs.Orders.{house_order, ordered, HouseOrder};
 
+use rules::Tables;
 use sheet::{Kind, Lent, Node, Position, Refusal, Sheet};
 
 // How many needs a node of a kind has.
@@ -153,12 +154,11 @@ pub fn test_order(s: &[u8], ends: &[u16; Sheet::NODES], order: &[u16]) -> Result
 pub fn house_order(s: &[u8], order: &mut [u16]) -> Result<(), Refusal>
     ensures { HouseOrder s.now order.old result order.new }
 {
-    let mut ends = Sheet::fresh();
-    let mut slotted = Sheet::fresh();
-    let z = rules::judge(s, &mut ends, &mut slotted)?;
+    let mut tables = Tables::fresh();
+    let z = rules::judge(s, &mut tables)?;
     if order.len() != z.nodes {
         return Err(Refusal::Lent(Lent::Order));
     }
-    fill_house(s, &ends, order);
+    fill_house(s, &tables.ends, order);
     Ok(())
 }

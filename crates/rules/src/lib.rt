@@ -421,29 +421,47 @@ impl<'a> ScopedTree<'a> {
     }
 }
 
-// Rules 1 to 11. Where they hold, the tables have where each expression ends and the slot of each FBY.
+// What an accepted sheet is worked by, node by node: where its expression ends, and an FBY's slot.
+#[derive(Drop)]
+pub struct Tables {
+    pub ends: [u16; Sheet::NODES],
+    pub slots: [u16; Sheet::NODES],
+}
+
+impl Tables {
+    // Tables to be filled.
+    pub fn fresh() -> Tables
+        ensures { (length result.ends ≡ max_nodes) × (length result.slots ≡ max_nodes) }
+    {
+        Tables {
+            ends: Sheet::fresh(),
+            slots: Sheet::fresh(),
+        }
+    }
+}
+
+// Rules 1 to 11. Where they hold, the tables are filled.
 #[tactic(auto, using(sheet::proofs::RulingLaws::then_refused, sheet::proofs::RulingLaws::then_next), unfolding(crate::specs::Check::rules))]
-pub fn judge(
-    s: &[u8],
-    ends: &mut [u16; Sheet::NODES],
-    slotted: &mut [u16; Sheet::NODES],
-) -> Result<Sheet, Refusal>
+pub fn judge(s: &[u8], tables: &mut Tables) -> Result<Sheet, Refusal>
     ensures result_value { said result ≡ check.check s.now }
-    ensures tables { check.rules s.now ≡ passed → check.Tables s.now ends.new slotted.new }
+    ensures tables { check.rules s.now ≡ passed → check.Tables s.now tables.new.ends tables.new.slots }
 {
     sheet::form(s)?;
-    sheet::fill_ends(s, ends);
-    let tree = Tree { s, ends: &*ends };
-    let mut table = untyped();
-    tree.tree_rules(&mut table)?;
-    let slots = fill_slots(s, slotted);
-    let slot_of = &*slotted;
+    sheet::fill_ends(s, &mut tables.ends);
+    let tree = Tree {
+        s,
+        ends: &tables.ends,
+    };
+    let mut types = untyped();
+    tree.tree_rules(&mut types)?;
+    let slots = fill_slots(s, &mut tables.slots);
+    let slot_of = &tables.slots;
     tree.ruled(Rule::Slots, |i| tree.slotless(slot_of, i))?;
     Ok(Sheet {
         nodes: sheet::nodes(s),
         columns: usize::from(sheet::byte(s, 3)),
         slots,
-        root: table[0],
+        root: types[0],
     })
 }
 
@@ -451,7 +469,5 @@ pub fn judge(
 pub fn check(s: &[u8]) -> Result<Sheet, Refusal>
     ensures { said result ≡ check.check s.now }
 {
-    let mut ends = Sheet::fresh();
-    let mut slotted = Sheet::fresh();
-    judge(s, &mut ends, &mut slotted)
+    judge(s, &mut Tables::fresh())
 }
