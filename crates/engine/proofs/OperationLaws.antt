@@ -75,14 +75,14 @@ module _ (s : List ℕ) (tests : Ruling) where
 -- ---- Start
 
 module _ (s : List ℕ) (old : List ℤ) where
-  pub start-refused : (r : Refusal) → turned (number_of r) (place_of r) ≡ check s → Start s old (Err r) old
+  pub start_refused : (r : Refusal) → turned (number_of r) (place_of r) ≡ check s → Start s old (Err r) old
   unfolding start_rules at_end
-  start-refused r e = let q = after_refusal s (lent Cells (length old) (slots s)) _ _ e in record { answer = rw q; cells = rw q }
+  start_refused r e = let q = after_refusal s (lent Cells (length old) (slots s)) _ _ e in record { answer = rw q; cells = rw q }
 
   module _ {z : Sheet} (e : accepted z ≡ check s) where
-    pub start-lent : (length old ≡ z.slots → ⊥) → Start s old (Err (WrongLength Cells)) old
+    pub start_turned : (length old ≡ z.slots → ⊥) → Start s old (Err (WrongLength Cells)) old
     unfolding start_rules rule at_end
-    start-lent n =
+    start_turned n =
         let q = after-rules s (lent Cells (length old) (slots s)) e in
         let b = ne_eqb (length old) (slots s) (λ x. n (x ∙ sym (slots_by s z e))) in
         record { answer = rw (q, b); cells = rw (q, b) }

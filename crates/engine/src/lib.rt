@@ -404,7 +404,7 @@ fn test_length(slice: Lent, size: usize, right: usize) -> Result<(), Refusal>
 }
 
 // Rules 12 to 15 of a tick.
-#[tactic(auto, using(sheet::proofs::RulingLaws::then_refused, sheet::proofs::RulingLaws::then_next), unfolding(crate::specs::Operations::tick_tests, crate::specs::Operations::lent_rules))]
+#[tactic(auto, using(sheet::proofs::RulingLaws::then_refused, sheet::proofs::RulingLaws::then_next), unfolding(crate::specs::Operations::tick_tests, crate::specs::Operations::lent_rules, rules::specs::Check::sheet))]
 fn test_tick(
     s: &[u8],
     z: Sheet,
@@ -443,6 +443,7 @@ fn test_run(s: &[u8], rows: &[i32], ticks: usize) -> Result<(), Refusal>
 
 // START
 
+#[tactic(auto, using(crate::proofs::OperationLaws::slots_by, crate::proofs::OperationLaws::start_refused, crate::proofs::OperationLaws::start_turned, crate::proofs::OperationLaws::start_done))]
 pub fn start(s: &[u8], cells: &mut [i32]) -> Result<(), Refusal>
     ensures { operations.Start s.now cells.old result cells.new }
 {

@@ -1,5 +1,5 @@
 -- After i nodes, each FBY among them has in its cell what is given for it.
-use Rattle.std.proofs.Common.{◌<◌, ◌∙◌, arith}
+use Rattle.std.proofs.Common.{◌<◌, arith}
 use Rattle.number.proofs.Bridge.{back_ok}
 use Rattle.sheet.specs.Bytes.{nodes}
 use Rattle.engine.proofs.FillLaws.{filled_none, filled-all, filled-past, filled-room, filled_more}

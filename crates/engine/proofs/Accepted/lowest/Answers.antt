@@ -1,5 +1,5 @@
 -- The first node that fails is the lowest, and where none does, there is none.
-use Rattle.std.proofs.Common.{◌+◌, ◌<◌, ◌∙◌, zero-le, arith, lt-ltb, le-ltb, below_more}
+use Rattle.std.proofs.Common.{◌+◌, ◌<◌, ◌∙◌, zero-le, arith, lt-ltb, le-ltb}
 use Rattle.finite.proofs.LowestLaws.{lowest-is, lowest_none}
 use Rattle.sheet.specs.Bytes.{nodes}
 use Rattle.meaning.specs.Verdicts.{lowest_failing}

@@ -5,7 +5,6 @@ use Rattle.sheet.specs.Bytes.{kind_at, arity, operand}
 use Rattle.rules.specs.Scope.{fby_at}
 use Rattle.meaning.specs.Cells.{next_cells}
 use Rattle.meaning.proofs.LocalLaws.{fby_kind}
-use Rattle.engine.proofs.FunctionLaws.{given}
 use Rattle.engine.proofs.Accepted.store.Goals as goal
 
 has_operand : (s : List ℕ) (i : ℕ) → fby_at s i ≡ true → 0 < arity (kind_at s i)

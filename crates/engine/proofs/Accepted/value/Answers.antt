@@ -1,23 +1,18 @@
 -- An arm for each kind that needs nothing, one for an OP, and a last arm for the kinds with the value of their one need.
-use Rattle.std.proofs.Common.{◌≡◌, ℕ, zero, suc, ◌<◌, List, [], ◌∷◌, get_or, ℤ, pos, refl, sym, ap, ◌∙◌, w32, of_z, to_z, ltb-true, arith}
+use Rattle.std.proofs.Common.{◌≡◌, ℕ, zero, suc, ◌<◌, List, [], ◌∷◌, get_or, ℤ, pos, refl, sym, ap, ◌∙◌, w32, of_z, to_z}
 use lib.Signed.{mag}
-use borrow.Author.Tests.{not-false}
 use Rattle.number.specs.Operators.{operands, applied}
 use Rattle.number.specs.declared.Operator.{Operator}
 use Rattle.number.proofs.Bridge.{back_ok}
 use Rattle.number.proofs.OperatorLaws.{applied-same}
 use Rattle.table.specs.Equations.{at}
-use Rattle.sheet.specs.Bytes.{nodes, columns, kind_at, argument, is_var, operand}
-use Rattle.sheet.specs.Form.{known, bad_record, Formed}
-use Rattle.sheet.specs.declared.ValueType.{ValueType}
+use Rattle.sheet.specs.Bytes.{kind_at, is_var, operand}
 use Rattle.sheet.specs.declared.Kind.{Kind}
-use Rattle.sheet.specs.declared.Kind.TheVariants.{Const, Input, Var, Op, Fby, Rec, Let, Check, Contract, Unknown}
+use Rattle.sheet.specs.declared.Kind.TheVariants.{Op}
 use Rattle.order.specs.Needs.{needs as needs_of, need_count}
 use Rattle.order.proofs.NeedsLaws.{need_by, need_at}
 use Rattle.meaning.specs.Equations.{value_by}
 use Rattle.meaning.specs.Local.{local_by, local_value}
-use Rattle.meaning.specs.Cells.{held}
-use Rattle.engine.proofs.FunctionLaws.{given}
 use Rattle.engine.proofs.Accepted.value.Goals as goal
 
 -- the value of need k, of a node of a kind
