@@ -5,5 +5,4 @@ pub mod OneResult
 mod FillLaws
 pub mod RunLaws
 mod FunctionLaws
-mod EachLaws
 mod OperationLaws

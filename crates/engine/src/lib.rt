@@ -358,7 +358,7 @@ fn faulty(t: ValueType, v: i32) -> bool
 }
 
 // Rule 13, over rows laid end to end.
-#[tactic(auto, using(crate::proofs::EachLaws::passed_all), unfolding(crate::specs::Rows::row_rule, crate::specs::Rows::bad_entry))]
+#[tactic(auto, unfolding(crate::specs::Rows::bad_entry))]
 fn test_rows(s: &[u8], rows: &[i32]) -> Result<(), Refusal>
     requires { columns s.now ≡ 0 → length rows.now ≡ 0 }
     ensures { told result ≡ faults.row_rule s.now rows.now }
@@ -374,7 +374,7 @@ fn test_rows(s: &[u8], rows: &[i32]) -> Result<(), Refusal>
 }
 
 // Rule 14, slot by slot.
-#[tactic(auto, using(crate::proofs::EachLaws::passed_all), unfolding(crate::specs::Rows::cell_rule, rules::specs::Slots::slot, rules::specs::Slots::slots, finite::specs::Count::count))]
+#[tactic(auto, unfolding(rules::specs::Slots::slot, finite::specs::Count::count))]
 fn test_cells(s: &[u8], cells: &[i32]) -> Result<(), Refusal>
     requires { nodes s.now ≤ max_nodes }
     ensures { told result ≡ faults.cell_rule s.now cells.now }
@@ -428,6 +428,7 @@ fn test_tick(
 }
 
 // Rules 12 and 13 of a run.
+#[tactic(auto, using(sheet::proofs::RulingLaws::then_refused, sheet::proofs::RulingLaws::then_next), unfolding(sheet::specs::Ruling::rule, crate::specs::Operations::run_tests))]
 fn test_run(s: &[u8], rows: &[i32], ticks: usize) -> Result<(), Refusal>
     ensures { told result ≡ operations.run_tests s.now rows.now ticks }
 {
@@ -443,7 +444,7 @@ fn test_run(s: &[u8], rows: &[i32], ticks: usize) -> Result<(), Refusal>
 
 // START
 
-#[tactic(auto, using(crate::proofs::OperationLaws::slots_by, crate::proofs::OperationLaws::start_refused, crate::proofs::OperationLaws::start_turned, crate::proofs::OperationLaws::start_done))]
+#[tactic(auto, using(crate::proofs::OperationLaws::nodes_by, crate::proofs::OperationLaws::few_nodes, crate::proofs::OperationLaws::slots_by, crate::proofs::OperationLaws::start_refused, crate::proofs::OperationLaws::start_turned, crate::proofs::OperationLaws::start_done))]
 pub fn start(s: &[u8], cells: &mut [i32]) -> Result<(), Refusal>
     ensures { operations.Start s.now cells.old result cells.new }
 {

@@ -1,5 +1,5 @@
 -- Before node i come slot s i slots, and none of them breaks the rule.
-use Rattle.std.proofs.Common.{◌≡◌, ℕ, ◌+◌, ◌<◌, true, List, get_or, ℤ, pos, sym, arith, rules, below_more}
+use Rattle.std.proofs.Common.{◌≡◌, ℕ, ◌+◌, ◌<◌, true, List, get_or, ℤ, pos, sym, zero-le, arith, rules, below_more}
 use Rattle.finite.proofs.Tests.{by-test}
 use Rattle.finite.proofs.CountLaws.{count_lt, count_step_yes, count_step_no}
 use Rattle.finite.proofs.GatherLaws.{gather-at}
@@ -7,13 +7,13 @@ use Rattle.sheet.specs.Bytes.{nodes, kind_at, is_fby}
 use Rattle.sheet.specs.declared.ValueType.{ValueType}
 use Rattle.sheet.specs.declared.ValueType.TheVariants.{Int as int}
 use Rattle.sheet.specs.declared.Kind.TheVariants.{Fby}
+use Rattle.sheet.proofs.RulingLaws.{each-passed, each_refused}
 use Rattle.rules.specs.Scope.{fby_at}
 use Rattle.rules.specs.Types.{type_at}
 use Rattle.rules.specs.Slots.{slot, slots}
 use Rattle.rules.proofs.TypeLaws.{fby_type}
 use Rattle.meaning.proofs.LocalLaws.{fby_kind}
 use Rattle.engine.specs.Rows.{faulty, slot_types, bad_cell, cell_rule}
-use Rattle.engine.proofs.EachLaws.{refused_first}
 use Rattle.engine.proofs.test_cells.Goals as goal
 use Rattle.engine.proofs.test_cells.Goals.{in-Fby+else-faulty, in_default}
 
@@ -48,7 +48,7 @@ returns-then-faulty c =
     let i : c.loop-i.i < nodes c.args.s.now = omega arith in
     let under = slot_under _ _ e i in
     let bad = bad_here _ _ e c.args.cells.now i in
-    refused_first 14 _ _ _ c.loop-i.invariant.2 (rw c.loop-i.invariant.1 under) (search (rules, bad))
+    each_refused _ _ _ _ _ zero-le (omega (arith, c.loop-i.invariant.1)) (search (rules, bad)) (λ k _ l. c.loop-i.invariant.2 k l)
 
 pub loop-i-preserved : goal.loop-i-preserved
 loop-i-preserved c =
@@ -61,3 +61,7 @@ loop-i-preserved c =
           rw w.j-is (omega arith, omega (arith, slot_next _ _ e), below_more _ _ inv.2 (search (rules, bad)))
       | in_default w ↦ rw w.j-is (omega arith, omega (arith, no_slot _ _ (rw c.kind_at.ensures at w.in_default.not-Fby)), inv.2)
     ]
+
+pub returns : goal.returns
+unfolding cell_rule slots slot
+returns c = sym ((each-passed _ _ _ _).1 (λ k _ l. c.loop-i.invariant.2 k (search rules)))
