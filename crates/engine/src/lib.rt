@@ -470,10 +470,7 @@ pub fn tick(
     let mut tables = Tables::fresh();
     let z = rules::judge(s, &mut tables)?;
     test_tick(s, z, &tables.ends, row, &*cells, order, values.len())?;
-    let accepted = Accepted {
-        s,
-        tables: &tables,
-    };
+    let accepted = Accepted { s, tables: &tables };
     accepted.step(row, order, cells, values);
     Ok(accepted.answer(&*values))
 }
@@ -487,10 +484,7 @@ pub fn run(s: &[u8], rows: &[i32], outputs: &mut [i32]) -> Result<usize, Refusal
     let mut tables = Tables::fresh();
     let z = rules::judge(s, &mut tables)?;
     test_run(s, rows, outputs.len())?;
-    let accepted = Accepted {
-        s,
-        tables: &tables,
-    };
+    let accepted = Accepted { s, tables: &tables };
     let mut order = Sheet::fresh();
     let mut cells = RunState::cells();
     let mut values = RunState::values();

@@ -1,8 +1,7 @@
 -- Check's refusal is the answer, then that of the tests; else the rows are run over parts of local arrays, of the sheet's own sizes.
-use Rattle.std.proofs.Common.{sym, ◌∙◌, arith}
-use Rattle.std.proofs.lemmas.Result.{err_from_is_err_and}
+use Rattle.std.proofs.Common.{◌∙◌}
 use Rattle.engine.proofs.RuleLaws.{run_exactly}
-use Rattle.engine.proofs.OperationLaws.{few_nodes, few_slots, length_part, rules_by, passes_by, nodes_by, slots_by, run_refused, run_turned, run_passed, run_done}
+use Rattle.engine.proofs.OperationLaws.{few_nodes, few_slots, length_part, rules_by, passes_by, nodes_by, slots_by, run_passed, run_done}
 use Rattle.engine.proofs.run.Goals as goal
 
 pub invariant_of-accepted : goal.invariant_of-accepted

@@ -1,7 +1,6 @@
 -- After some turns so many nodes of the order are worked.
-use Rattle.std.proofs.Common.{◌≡◌, ℕ, ◌+◌, ◌<◌, ◌≤◌, List, length, get_or, take, ℤ, pos, refl, sym, ◌∙◌, arith}
+use Rattle.std.proofs.Common.{◌≡◌, ℕ, ◌+◌, ◌<◌, List, length, get_or, take, ℤ, pos, sym, ◌∙◌}
 use lib.ListN.{set}
-use lib.Seq.{take_all}
 use Rattle.number.proofs.Bridge.{back_ok}
 use Rattle.table.specs.Equations.{at, work}
 use Rattle.table.proofs.TickLaws.{work-more}
