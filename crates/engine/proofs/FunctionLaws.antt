@@ -1,14 +1,18 @@
 -- Laws that several functions' proofs cite: the nodes that fail, and what needs of an accepted sheet are looked up by.
-use Prim.Native.Nat.{ℕ, ◌≤◌, ◌<◌}
+use Prim.Native.Nat.{ℕ, ◌+◌, ◌≤◌, ◌<◌}
 use mathlib.Core.Path.{◌≡◌, refl}
 use mathlib.Core.Bool.{Bool, true, false, not}
 use mathlib.Core.List.{List}
 use native.Mathlib.Omega.{arith}
 use lib.IntN.{ℤ, pos}
-use borrow.Author.Tests.{ltb-true, not-false}
+use lib.ListN.{length, get_or, set, take}
+use borrow.Author.Tests.{ltb-true, lt-ltb, le-ltb, not-false}
 use denote.Enum.Bare.{sameb}
+use Rattle.std.proofs.Common.{Some, None, zero-le}
 use Rattle.finite.proofs.Tests.{not-both}
-use Rattle.table.specs.Equations.{at}
+use Rattle.finite.proofs.LowestLaws.{lowest-is, lowest_none}
+use Rattle.table.specs.Equations.{at, work}
+use Rattle.table.proofs.TickLaws.{work-more}
 use Rattle.sheet.specs.Ceilings.{max_nodes}
 use Rattle.sheet.specs.Ruling.{Ruling, passed, refused, passes}
 use Rattle.sheet.specs.Bytes.{nodes, columns, kind_at, argument, arity, operand, operand_by}
@@ -18,7 +22,7 @@ use Rattle.sheet.proofs.SheetLaws.{operand_by_table}
 use Rattle.rules.specs.Check.{rules}
 use Rattle.rules.proofs.CheckLaws.{rules_exactly}
 use Rattle.order.specs.Needs.{Given}
-use Rattle.meaning.specs.Verdicts.{verdict, failing}
+use Rattle.meaning.specs.Verdicts.{verdict, failing, lowest_failing}
 use Rattle.meaning.specs.declared.Verdict.{Verdict}
 use Rattle.meaning.specs.declared.Verdict.TheVariants.{Pass}
 use Rattle.meaning.specs.contracts.Verdict.{the_type}
@@ -32,6 +36,17 @@ fails s values = failing s (at (pos 0) values)
 pub fails_is : (s : List ℕ) (values : List ℤ) (i : ℕ) (v : Verdict) (b : Bool) → v ≡ verdict s (at (pos 0) values) i → b ≡ not (sameb the_type v Pass)
     → fails s values i ≡ b
 fails_is s values i v b e q = rw (← e, q, is_pass-same v)
+
+module _ (s : List ℕ) (values : List ℤ) (i : ℕ) where
+  pub first_fails : ((k : ℕ) → k < i → fails s values k ≡ false) → i < nodes s → fails s values i ≡ true
+      → lowest_failing s (at (pos 0) values) ≡ Some (record { 0 = i }, verdict s (at (pos 0) values) i)
+  unfolding lowest_failing
+  first_fails none l found = rw (lowest-is (fails s values) 0 (nodes s) i zero-le (omega arith) found (λ j _ u. none j u), lt-ltb _ _ l)
+
+  pub none_fails : ((k : ℕ) → k < i → fails s values k ≡ false) → nodes s ≤ i → lowest_failing s (at (pos 0) values) ≡ None
+  unfolding lowest_failing
+  none_fails none l =
+      rw (lowest_none (fails s values) 0 (nodes s) (λ j _ u. none j (omega arith)), le-ltb (0 + nodes s) (nodes s) (omega arith))
 
 passed_by : (r : Ruling) → passes r ≡ true → r ≡ passed
 unfolding passes
@@ -57,3 +72,8 @@ module _ (a : Accepted) where
         let s = a.s.now in
         let f = (given a).sound.formed in
         omega (arith, f.narrow, ltb-true (argument s i) (columns s) (rw e at (not-false (known (columns s) (kind_at s i) (argument s i)) (f.records i h))))
+
+-- one node of the order more is worked
+pub work_more : (rhs : ℕ → (ℕ → ℤ) → ℤ) (order : List ℕ) (p : ℕ) (lent : List ℤ) → p < length order
+    → work (pos 0) rhs (take (p + 1) order) lent ≡ (let old = work (pos 0) rhs (take p order) lent in let i = get_or order p 0 in set old i (rhs i (at (pos 0) old)))
+work_more rhs order p lent l = work-more (pos 0) rhs order p lent l

@@ -72,14 +72,14 @@ impl Marks {
     fn has(&self, i: Node) -> bool
         ensures { result ≡ get_or self.now.marks i.0 false }
     {
-        self.marks.get(sheet::index(i)).copied().unwrap_or(false)
+        self.marks.get(usize::from(i)).copied().unwrap_or(false)
     }
 
     // By index, since the contract of get_mut doesn't say what the slice holds after a write.
     fn put(&mut self, i: Node)
         ensures { self.new.marks ≡ set self.old.marks i.0 true }
     {
-        let at = sheet::index(i);
+        let at = usize::from(i);
         if at < self.marks.len() {
             self.marks[at] = true;
         }
@@ -142,7 +142,7 @@ pub fn test_order(s: &[u8], ends: &[u16; Sheet::NODES], order: &[u16]) -> Result
     let mut seen = Marks::new();
     for (p, entry) in order.iter().enumerate() {
         let i = Node(*entry);
-        if n <= sheet::index(i) || seen.has(i) || !met(s, ends, &seen, i) {
+        if n <= usize::from(i) || seen.has(i) || !met(s, ends, &seen, i) {
             return Err(Refusal::Order(Position(p as u16)));
         }
         seen.put(i);

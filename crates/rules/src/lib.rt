@@ -176,7 +176,7 @@ impl<'a> Tree<'a> {
         ensures { i.0 < bytes.nodes self.entry.s.now → result.0 ≡ bytes.end_of self.entry.s.now i.0 }
     {
         let ends = self.ends;
-        Node(ends.get(sheet::index(i)).copied().unwrap_or(0))
+        Node(ends.get(usize::from(i)).copied().unwrap_or(0))
     }
 
     // How many nodes stand above each node: all, or the FBYs alone. Which, the flag of the definitions counted and Overs says: a closure
@@ -188,7 +188,7 @@ impl<'a> Tree<'a> {
         ensures { scope.HandedDown self.entry.s.now i.0 (bytes.arity_at self.entry.s.now i.0) over table.old table.new }
     {
         for k in 0..self.arity(i) {
-            table[sheet::index(self.operand(i, k))] = over;
+            table[usize::from(self.operand(i, k))] = over;
         }
     }
 
@@ -211,7 +211,7 @@ impl<'a> Tree<'a> {
         requires i_bound { i.0 < bytes.nodes self.s.now }
         ensures { result ≡ check.breaks self.entry.s.now Rule.Depth i.0 }
     {
-        Sheet::DEPTH < 1 + usize::from(overs[sheet::index(i)])
+        Sheet::DEPTH < 1 + usize::from(overs[usize::from(i)])
     }
 
     // Scope.
@@ -248,7 +248,7 @@ impl<'a> Tree<'a> {
     fn operand_type(self, table: &[ValueType; Sheet::NODES], i: Node, k: usize) -> ValueType
         ensures { i.0 < bytes.nodes self.entry.s.now → k < bytes.arity_at self.entry.s.now i.0 → result ≡ types.type_in table.now (bytes.operand self.entry.s.now i.0 k) }
     {
-        let at = sheet::index(self.operand(i, k));
+        let at = usize::from(self.operand(i, k));
         table.get(at).copied().unwrap_or(ValueType::Bool)
     }
 
@@ -284,7 +284,7 @@ impl<'a> Tree<'a> {
         requires i_bound { i.0 < bytes.nodes self.s.now }
         ensures { result ≡ check.breaks self.entry.s.now Rule.Slots i.0 }
     {
-        is_fby(self.kind(i)) & (Sheet::SLOTS <= usize::from(table[sheet::index(i)]))
+        is_fby(self.kind(i)) & (Sheet::SLOTS <= usize::from(table[usize::from(i)]))
     }
 
     // A rule over all nodes, where `breaks` tests one.
@@ -347,7 +347,7 @@ impl<'a> ScopedTree<'a> {
     }
 
     // The type of node i, by the types of the nodes that it goes by.
-    #[tactic(auto, unfolding(crate::specs::Types::type_by, sheet::specs::Bytes::arity, sheet::specs::Bytes::is_var))]
+    #[tactic(auto, using(crate::proofs::TypeLaws::operator_local, crate::proofs::FunctionLaws::input_small), unfolding(crate::specs::Types::type_by, sheet::specs::Bytes::arity, sheet::specs::Bytes::is_var))]
     fn type_by(self, table: &[ValueType; Sheet::NODES], i: Node) -> ValueType
         requires i_bound { i.0 < bytes.nodes self.tree.s.now }
         ensures { result ≡ types.type_rule self.entry.tree.s.now i.0 (types.type_in table.now) }
@@ -376,7 +376,7 @@ impl<'a> ScopedTree<'a> {
             self.settle(next, table);
             next = tree.end(next);
         }
-        table[sheet::index(i)] = self.type_by(&*table, i);
+        table[usize::from(i)] = self.type_by(&*table, i);
     }
 
     // Guard: more FBYs stand above the VAR than above the REC that it names.
@@ -394,7 +394,7 @@ impl<'a> ScopedTree<'a> {
         if !is_rec(tree.kind(b)) {
             return false;
         }
-        overs[sheet::index(i)] <= overs[sheet::index(b)]
+        overs[usize::from(i)] <= overs[usize::from(b)]
     }
 
     // Rule 10.

@@ -43,7 +43,7 @@ use Rattle.settled.specs.Table.{Gives, root, Settled}
 
 -- `unfolding computes` opens all that the examples compute with
 unfoldable pub computes : ℕ
-unfolding lowest count member all gather wrap sum difference negated product divided modulo applied ready fit misplaced next house_part house work mem_at vals_at rule each ◌then◌ answer times past end nodes column_type start kind_of kind_at argument arity is_var is_fby end_of operand lies above whole_body known bad_record length_version column_types body records shape form over depth binds scoped is_rec between guarded named_type operator_type type_by types_after type_at fits well_typed mistyped slot slots breaks tree_rules rules sheet check named_need needs_by needs house_order ordered source literal value_by value local_by local_value machine verdict_by verdict lowest_failing row_at A bare strict B D joined same decimal_by decimal integer digits digits_after listing column_at node_at node_text closings closes opens opening name carried parts split filled words record_of is_number bits_of is_constant constant_record numbered named name_no is_type type_no name_record record_told takes_next records_told types_told headed told_by sheet_told A-text
+unfolding lowest count member all gather wrap sum difference negated product divided modulo applied ready fit misplaced next house_part house work mem_at vals_at rule each ◌then◌ answer times past end nodes column_type start kind_of kind_at argument arity is_var is_fby end_of operand lies above whole_body known bad_record length_version column_types body records shape form over depth binds scoped is_rec between guarded named_type operator_type type_by types_after type_at fits well_typed mistyped slot slots breaks tree_rules rules sheet check named_need needs_by needs house_order ordered source literal value_by value local_by local_value machine verdict_by verdict lowest_failing row_at A bare strict B D joined decimal_by decimal integer digits digits_after listing column_at node_at node_text closings closes opens opening name carried parts split filled words record_of is_number bits_of is_constant constant_record numbered named name_no is_type type_no name_record record_told takes_next records_told types_told headed told_by sheet_told A-text
 computes = 0
 
 -- the values that working the house order at every tick fills in

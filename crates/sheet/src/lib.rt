@@ -163,7 +163,7 @@ impl Refusal {
             | Refusal::Scope(i)
             | Refusal::Types(i)
             | Refusal::Unguarded(i)
-            | Refusal::Slots(i) => index(i),
+            | Refusal::Slots(i) => usize::from(i),
             Refusal::Lent(slice) => slice as usize,
             Refusal::Cell(j) => usize::from(j.0),
             Refusal::Order(p) => usize::from(p.0),
@@ -172,12 +172,6 @@ impl Refusal {
 }
 
 // A node's place in a table of nodes.
-pub fn index(i: Node) -> usize
-    ensures { result ≡ i.0 }
-{
-    usize::from(i.0)
-}
-
 impl From<Node> for usize {
     ghost from_gives = { λ i n. n ≡ i.0 };
 
@@ -212,7 +206,7 @@ pub fn nodes(s: &[u8]) -> usize
 fn start(s: &[u8], i: Node) -> usize
     ensures { (result ≡ bytes.start s.now i.0) × (result < 400000) }
 {
-    4 + columns(s) + 6 * index(i)
+    4 + columns(s) + 6 * usize::from(i)
 }
 
 // The table of kinds.
@@ -443,7 +437,7 @@ pub fn form(s: &[u8]) -> Result<(), Refusal>
 pub fn operand(ends: &[u16; Sheet::NODES], i: Node, k: usize) -> Node
     ensures { i.0 < max_nodes → result.0 ≡ bytes.operand_by ends.now i.0 k }
 {
-    if Sheet::NODES <= index(i) {
+    if Sheet::NODES <= usize::from(i) {
         return Node(0);
     }
     let mut at = i.0 + 1;

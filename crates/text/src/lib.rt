@@ -34,7 +34,7 @@ pub fn put_integer<const N: usize>(out: &mut ArrayVec<u8, N>, v: i32)
     if v < 0 {
         put(out, b"-");
     }
-    put_decimal(out, v.unsigned_abs() as u64);
+    put_decimal(out, u64::from(v.unsigned_abs()));
 }
 
 // What of a text a lent buffer has room for is copied into it, and what is returned is how many bytes that is.
@@ -53,7 +53,7 @@ pub fn digits(word: &[u8]) -> u32
 {
     let mut n: u32 = 0;
     for b in word {
-        n = n.wrapping_mul(10).wrapping_add((*b % 16) as u32);
+        n = n.wrapping_mul(10).wrapping_add(u32::from(*b % 16));
     }
     n
 }

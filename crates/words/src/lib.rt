@@ -25,7 +25,7 @@ pub fn put_refusal<const N: usize>(out: &mut ArrayVec<u8, N>, r: Refusal)
     ensures short { length (refused_line (number_of r) (place_of r)) ≤ 33 }
 {
     text::put(out, b"refused ");
-    text::put_decimal(out, r.number() as u64);
+    text::put_decimal(out, u64::from(r.number()));
     text::put(out, b" ");
     text::put_decimal(out, r.place() as u64);
     text::put(out, b"\n");

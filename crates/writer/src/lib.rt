@@ -33,7 +33,7 @@ fn put_numbered<const N: usize>(out: &mut ArrayVec<u8, N>, letter: &[u8], a: u32
     ensures { Appends N (letter.now ++ decimal a) out.old.items out.new.items }
 {
     text::put(out, letter);
-    text::put_decimal(out, a as u64);
+    text::put_decimal(out, u64::from(a));
 }
 
 #[tactic(auto, using(text::proofs::TextLaws::append_none, text::proofs::TextLaws::append_then), unfolding(listing::specs::Listing::carried))]
@@ -140,7 +140,7 @@ fn put_columns<const N: usize>(out: &mut ArrayVec<u8, N>, s: &[u8])
 {
     for c in 0..sheet::byte(s, 3) {
         text::put(out, b" ");
-        words::put_type(out, sheet::column_type(s, Column(c as u16)));
+        words::put_type(out, sheet::column_type(s, Column(u16::from(c))));
     }
 }
 

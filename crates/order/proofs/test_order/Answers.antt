@@ -5,17 +5,17 @@ use Rattle.sheet.proofs.RulingLaws.{each-passed, each_refused}
 use Rattle.order.specs.Orders.{ordered}
 use Rattle.order.proofs.FunctionLaws.{met_is, bad_over, bad_ready, tried_more}
 use Rattle.order.proofs.test_order.Goals as goal
-use Rattle.order.proofs.test_order.Goals.{then-n-index-via-then-n-index, then-n-index-via-else-n-index+then-has, then-n-index-via-else-n-index+else-has+then-not-met}
+use Rattle.order.proofs.test_order.Goals.{then-n-from-via-then-n-from, then-n-from-via-else-n-from+then-has, then-n-from-via-else-n-from+else-has+then-not-met}
 
-pub returns-then-n-index : goal.returns-then-n-index
+pub returns-then-n-from : goal.returns-then-n-from
 unfolding ordered ready
-returns-then-n-index c g e =
+returns-then-n-from c g e =
     let t = c.loop-p.invariant g e in
     each_refused _ _ _ _ _ (omega arith) (omega arith)
-    (elim c.then-n-index.branch [
-      | then-n-index-via-then-n-index w ↦ bad_over _ _ _ _ t (omega arith)
-      | then-n-index-via-else-n-index+then-has w ↦ bad_ready _ _ _ _ t false (omega arith) (rw (← w.has.ensures, w.if-has.true))
-      | then-n-index-via-else-n-index+else-has+then-not-met w ↦
+    (elim c.then-n-from.branch [
+      | then-n-from-via-then-n-from w ↦ bad_over _ _ _ _ t (omega arith)
+      | then-n-from-via-else-n-from+then-has w ↦ bad_ready _ _ _ _ t false (omega arith) (rw (← w.has.ensures, w.if-has.true))
+      | then-n-from-via-else-n-from+else-has+then-not-met w ↦
           bad_ready _ _ _ _ t false (omega arith) (rw (← w.has.ensures, w.if-has.false, ← met_is _ _ _ _ (w.met.ensures g (omega arith)), w.if-not-met.true))
     ])
     (λ q _ l. t.none q l)

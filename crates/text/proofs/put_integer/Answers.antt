@@ -9,7 +9,7 @@ pub returns : goal.returns
 unfolding integer
 returns g c =
     let f = c.ranges.v in
-    let number = rw (c.unsigned_abs.ensures.value, back f) at c.put_decimal.ensures in
+    let number = rw (c.from.ensures, c.unsigned_abs.ensures.value, back f) at c.put_decimal.ensures in
     elim c.if-v-lt0.branch [
       | then-v-lt0 w ↦
           let e = below_zero f w.if-v-lt0.true in rw e (append_then w.put.ensures (rw (e, w.out-is) at number))

@@ -6,4 +6,4 @@ use Rattle.writer.proofs.put_columns.Goals as goal
 pub loop-c-preserved : goal.loop-c-preserved
 unfolding column_at
 loop-c-preserved g c =
-    append_next _ _ c.loop-c.invariant (append_then c.put.ensures (rw c.column_type.ensures at c.put_type.ensures))
+    append_next _ _ c.loop-c.invariant (append_then c.put.ensures (rw (c.column_type.ensures, c.from.ensures) at c.put_type.ensures))

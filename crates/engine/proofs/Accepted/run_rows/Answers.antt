@@ -1,5 +1,5 @@
 -- The house order is right, and the fresh cells are those before tick 0; the slices after t turns are those after t ticks.
-use Rattle.std.proofs.Common.{refl, ◌∙◌, arith}
+use Rattle.std.proofs.Common.{refl, ◌∙◌, rules, arith}
 use Rattle.number.proofs.Bridge.{back_ok}
 use Rattle.order.proofs.OrderLaws.{house_right}
 use Rattle.engine.proofs.FunctionLaws.{given}
@@ -20,7 +20,7 @@ pub loop-t-preserved : goal.loop-t-preserved
 loop-t-preserved c =
     let l = c.loop-t in (
       omega (arith, l.invariant.0, c.after-run.ensures.0),
-      after_more l.invariant.1 (given c.args.self).sound (omega (arith, l.invariant.1.outputs-size)) (row_is c.args.self.s.now c.args.rows.now l.t _ c.byte-columns.ensures)
+      after_more l.invariant.1 (given c.args.self).sound (omega (arith, l.invariant.1.outputs-size)) (row_is c.args.self.s.now c.args.rows.now l.t c.from-columns.result (search rules))
           c.step.ensures (back_ok c.value_of.type_inv ∙ c.value_of.ensures) c.failures.ensures refl refl c.after-run.ensures.1,
     )
 

@@ -90,5 +90,5 @@ returns t c =
     let l = c.loop in
     let all : arity_at z.tree.s.now c.args.i.0 ≡ l.counter = omega arith in
     let e = end_is _ _ p.i_bound ∙ ap (operand z.tree.s.now c.args.i.0) all ∙ sym l.invariant.0 in
-    rw c.index.ensures
+    rw c.from.ensures
     (settled_all z.tree.formed _ p.i_bound _ l.table p.settled_before z.scoped (rw e l.invariant.1) _ c.type_by.ensures (omega arith))

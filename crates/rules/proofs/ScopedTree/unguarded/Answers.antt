@@ -37,4 +37,4 @@ returns c =
     let rec : is_rec (kind_at s b) ≡ true = rw (← n.0, ← c.kind-2.ensures) (sym c.if-not-is_rec.ensures) in
     let counts : (j : ℕ) → j < nodes s → get_or overs j 0 ≡ over s (fby_at s) j = λ j h. p.overs j h ∙ over_delays s j in
     rw (v, rec, guarded_counts s b i (scoped-above f b i (c.args.self.scoped i p.i_bound v)) (rec_no_fby (kind_at s b) rec))
-    (rw (c.index.ensures, c.index-2.ensures, n.0, counts i p.i_bound, counts b (rw n.0 at n.1)) (not_more (over s (fby_at s) i) (over s (fby_at s) b)))
+    (rw (c.from.ensures, c.from-2.ensures, n.0, counts i p.i_bound, counts b (rw n.0 at n.1)) (not_more (over s (fby_at s) i) (over s (fby_at s) b)))

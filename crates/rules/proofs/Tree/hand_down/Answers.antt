@@ -24,19 +24,19 @@ handed_more s i m over old new d h = record {
 pub loop-k-init : goal.loop-k-init
 loop-k-init c = handed_none _ _ _ _
 
-pub bounds-table-index : goal.bounds-table-index
-bounds-table-index c =
+pub bounds-table-from : goal.bounds-table-from
+bounds-table-from c =
     let t = c.args.self in
     let h = c.requires.i_bound in
     let b : c.loop-k.k < arity_at t.s.now c.args.i.0 = omega arith in
-    rw (c.index.ensures, c.operand.ensures h b) (omega (arith, t.formed.few, operand_node t.formed _ h c.loop-k.k b))
+    rw (c.from.ensures, c.operand.ensures h b) (omega (arith, t.formed.few, operand_node t.formed _ h c.loop-k.k b))
 
 pub loop-k-preserved : goal.loop-k-preserved
 loop-k-preserved c =
     let t = c.args.self in
     let h = c.requires.i_bound in
     let b : c.loop-k.k < arity_at t.s.now c.args.i.0 = omega arith in
-    rw (c.index.ensures, c.operand.ensures h b)
+    rw (c.from.ensures, c.operand.ensures h b)
     (handed_more _ _ _ _ _ _ c.loop-k.invariant (omega (arith, t.formed.few, c.loop-k.invariant.size, operand_node t.formed _ h c.loop-k.k b)))
 
 pub returns : goal.returns
