@@ -1,3 +1,4 @@
--- The laws of the reader: its loops, the sheet that they make, and the answer.
-mod PlaceLaws
-mod ReaderLaws
+-- The laws of the reader: a text's first word, the type bytes and the records that words tell, and when they make a listing.
+pub mod FirstLaws
+pub mod LoopLaws
+pub mod ToldLaws

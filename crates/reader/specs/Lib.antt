@@ -1,3 +1,2 @@
--- How the sheet that a text tells comes about in a lent buffer.
-pub mod Places
+-- How the sheet that a text tells is read.
 pub mod Reading

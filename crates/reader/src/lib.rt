@@ -2,16 +2,23 @@
 // believed only where the text is that sheet's listing.
 #![tactic(auto)]
 
-ghost use Rattle.std.specs.Prelude.{◌≡◌, ◌-◌, ◌/◌, ◌%◌, ◌<◌, ◌≤◌, false, cond, not, length, drop, slice_set};
-ghost use Rattle.text.specs.Text.{Appends};
+ghost use Rattle.std.specs.Prelude.{◌≡◌, ◌-◌, ◌*◌, ◌<◌, ◌≤◌, true, false, cond, not, [], length, drop, Option, Some, None, MatchOption, Result, IfOk};
+ghost use Rattle.std.specs.List.{position_or_len};
+ghost use Rattle.text.specs.Text.{digits};
+ghost use Rattle.sheet.specs.Ceilings.{max_columns, max_nodes};
+ghost use Rattle.sheet.specs.Ruling.{told};
 ghost use Rattle.listing.specs.Telling as telling;
-ghost use Rattle.sheet.specs.Ceilings.{max_sheet};
-ghost use Rattle.listing.specs.Answers.{Answers, reader_rules};
-ghost use Rattle.reader.specs.Places.{place_from, word_from, word_to};
-ghost use Rattle.reader.specs.Reading.{Place, TypesPut, Fills, Tells};
+ghost use Rattle.listing.specs.Answers.{Answers, is_listing, text_rule, reader_rules};
+ghost use Rattle.reader.specs.Reading.{FirstWord, FrontWord, TypesRead};
 
-use listing::Listed;
-use sheet::{Lent, Refusal, Sheet};
+use arrayvec::ArrayVec;
+use listing::SHEET;
+use sheet::{Refusal, Sheet};
+
+// The most type bytes, and the most bytes of records.
+const TYPES: usize = Sheet::COLUMNS;
+
+const RECORDS: usize = 6 * Sheet::NODES;
 
 // The words of a text.
 
@@ -19,46 +26,24 @@ use sheet::{Lent, Refusal, Sheet};
 fn parts(b: u8) -> bool
     ensures { result ≡ telling.parts b }
 {
-    (b == b' ') | (b == b'(') | (b == b')')
+    matches!(b, b' ' | b'(' | b')')
 }
 
-fn sought(b: u8, parting: bool) -> bool
-    ensures { result ≡ cond «parting» (telling.parts b) (not (telling.parts b)) }
+// The first word of a text, and what comes after it.
+fn next_word(text: &[u8]) -> Option<(&[u8], &[u8])>
+    ensures { MatchOption result (telling.words text.now ≡ []) (λ found. FirstWord text.now found.0.now found.1.now) }
 {
-    if parting { parts(b) } else { !parts(b) }
+    let from = text.iter().position(|b| !parts(*b))?;
+    let rest = &text[from..];
+    let to = rest.iter().position(|b| parts(*b)).unwrap_or(rest.len());
+    Some(rest.split_at(to))
 }
 
-// The lowest place from `at` on whose byte parts words, or the lowest whose byte does not; the text's length where there is none.
-fn place_from(text: &[u8], at: usize, parting: bool) -> usize
-    requires { at ≤ length text.now }
-    ensures { Place text.now at (place_from «parting» text.now at) result }
+// The same, empty where there is no word.
+fn word_and_rest(text: &[u8]) -> (&[u8], &[u8])
+    ensures { FrontWord text.now result.0.now result.1.now }
 {
-    let mut i = at;
-    while i < text.len() {
-        if sought(text[i], parting) {
-            return i;
-        }
-        i += 1;
-    }
-    i
-}
-
-// Where the next word starts, and where a word ends.
-
-#[tactic(auto, unfolding(crate::specs::Places::word_from))]
-fn word_from(text: &[u8], at: usize) -> usize
-    requires { at ≤ length text.now }
-    ensures { Place text.now at (word_from text.now at) result }
-{
-    place_from(text, at, false)
-}
-
-#[tactic(auto, unfolding(crate::specs::Places::word_to))]
-fn word_to(text: &[u8], from: usize) -> usize
-    requires { from ≤ length text.now }
-    ensures { Place text.now from (word_to text.now from) result }
-{
-    place_from(text, from, true)
+    next_word(text).unwrap_or((b"", b""))
 }
 
 // What a word is.
@@ -74,48 +59,48 @@ fn is_number(word: &[u8]) -> bool
 fn is_constant(word: &[u8]) -> bool
     ensures { result ≡ telling.is_constant word.now }
 {
-    is_number(word) | text::same(word, b"false") | text::same(word, b"true")
-}
-
-fn negative(n: u32) -> u32
-    ensures { result ≡ (4294967296 - n) % 4294967296 }
-{
-    std::num::wrapping_sub_u32(0, n)
+    is_number(word) || word == b"false".as_slice() || word == b"true".as_slice()
 }
 
 #[tactic(auto, unfolding(listing::specs::Telling::bits_of))]
 fn bits_of(word: &[u8]) -> u32
     ensures { result ≡ telling.bits_of word.now }
 {
-    if sheet::byte(word, 0) == b'-' {
-        negative(text::digits(word, 1))
-    } else {
-        text::digits(word, 0)
+    match word {
+        [b'-', digits @ ..] => text::digits(digits).wrapping_neg(),
+        _ => text::digits(word),
     }
 }
 
+// The number after a letter, if that is what the word is.
 #[tactic(auto, unfolding(listing::specs::Telling::numbered))]
-fn numbered(word: &[u8], letter: u8) -> bool
-    ensures { result ≡ telling.numbered letter word.now }
+fn number_after(letter: u8, word: &[u8]) -> Option<u32>
+    requires { 0 < letter }
+    ensures { result ≡ cond (telling.numbered letter word.now) (Some (digits (drop 1 word.now))) None }
 {
-    (sheet::byte(word, 0) == letter) & (sheet::byte(word, 1) < 58)
+    match word {
+        [first, number @ ..] if *first == letter && sheet::byte(word, 1) < 58 => Some(text::digits(
+            number,
+        )),
+        _ => None,
+    }
 }
 
 #[tactic(auto, unfolding(listing::specs::Telling::is_type))]
 fn is_type(word: &[u8]) -> bool
     ensures { result ≡ telling.is_type word.now }
 {
-    text::same(word, b"bool") | text::same(word, b"int")
+    word == b"bool".as_slice() || word == b"int".as_slice()
 }
 
 #[tactic(auto, unfolding(listing::specs::Telling::type_no))]
 fn type_no(word: &[u8]) -> u8
     ensures { result ≡ telling.type_no word.now }
 {
-    if text::same(word, b"bool") { 0 } else { 1 }
+    if word == b"bool".as_slice() { 0 } else { 1 }
 }
 
-// The names by number.
+// The names by number, as in the definitions, of which theorem told_back speaks.
 
 fn kind_no(n: u8) -> u8
     ensures { result ≡ telling.kind_no n }
@@ -129,191 +114,149 @@ fn code_no(n: u8) -> u8
     if n < 14 { n } else { 0 }
 }
 
+#[tactic(auto, unfolding(listing::specs::Telling::named))]
 fn named(n: u8, word: &[u8]) -> bool
     ensures { result ≡ telling.named n word.now }
 {
-    let mut own = [0u8; 8];
-    let end = listing::put_name(&mut own, 0, sheet::kind_of(kind_no(n), code_no(n)));
-    text::same(word, &own[..end])
+    word == listing::name(sheet::kind_of(kind_no(n), code_no(n)))
 }
 
 fn name_no(word: &[u8]) -> u8
     ensures { result ≡ telling.name_no word.now }
 {
-    let mut n: u8 = 0;
-    while n < 19 {
-        if named(n, word) {
-            return n;
-        }
-        n += 1;
-    }
-    n
+    (0..19).find(|n| named(*n, word)).unwrap_or(19)
 }
 
 // The record that a word tells.
 
 #[tactic(auto, unfolding(listing::specs::Telling::record_of))]
-fn put_record(out: &mut [u8], at: usize, kind: u8, code: u8, a: u32) -> usize
-    ensures { Appends (telling.record_of kind code a) out.old out.new at result }
+fn record(kind: u8, code: u8, a: u32) -> [u8; 6]
+    ensures { result ≡ telling.record_of kind code a }
 {
-    let record = [
-        kind,
-        code,
-        (a / 16777216) as u8,
-        (a / 65536 % 256) as u8,
-        (a / 256 % 256) as u8,
-        (a % 256) as u8,
-    ];
-    text::put(out, at, &record)
+    let [a, b, c, d] = a.to_be_bytes();
+    [kind, code, a, b, c, d]
 }
 
 #[tactic(auto, unfolding(listing::specs::Telling::constant_record))]
-fn put_constant(out: &mut [u8], at: usize, kind: u8, word: &[u8]) -> usize
-    ensures { Appends (telling.constant_record kind word.now) out.old out.new at result }
+fn constant_record(kind: u8, word: &[u8]) -> [u8; 6]
+    ensures { result ≡ telling.constant_record kind word.now }
 {
     if is_number(word) {
-        return put_record(out, at, kind, 1, bits_of(word));
+        return record(kind, 1, bits_of(word));
     }
-    let value = if text::same(word, b"true") { 1 } else { 0 };
-    put_record(out, at, kind, 0, value)
+    record(kind, 0, (word == b"true".as_slice()) as u32)
 }
 
 #[tactic(auto, unfolding(listing::specs::Telling::name_record))]
-fn put_named(out: &mut [u8], at: usize, n: u8, next: &[u8]) -> usize
-    ensures { Appends (telling.name_record n next.now) out.old out.new at result }
+fn name_record(n: u8, next: &[u8]) -> [u8; 6]
+    ensures { result ≡ telling.name_record n next.now }
 {
-    if n == 14 {
-        return put_constant(out, at, 4, next);
+    match n {
+        14 => constant_record(4, next),
+        15 => record(5, type_no(next), 0),
+        _ => record(kind_no(n), code_no(n), 0),
     }
-    if n == 15 {
-        return put_record(out, at, 5, type_no(next), 0);
-    }
-    put_record(out, at, kind_no(n), code_no(n), 0)
 }
 
 #[tactic(auto, unfolding(listing::specs::Telling::record_told))]
-fn put_told(out: &mut [u8], at: usize, word: &[u8], next: &[u8]) -> usize
-    ensures { Appends (telling.record_told word.now next.now) out.old out.new at result }
+fn record_told(word: &[u8], next: &[u8]) -> [u8; 6]
+    ensures { result ≡ telling.record_told word.now next.now }
 {
     if is_constant(word) {
-        return put_constant(out, at, 0, word);
+        return constant_record(0, word);
     }
-    if numbered(word, b'v') {
-        return put_record(out, at, 2, 0, text::digits(word, 1));
+    if let Some(binder) = number_after(b'v', word) {
+        return record(2, 0, binder);
     }
-    if numbered(word, b'i') {
-        return put_record(out, at, 1, 0, text::digits(word, 1));
+    if let Some(column) = number_after(b'i', word) {
+        return record(1, 0, column);
     }
-    put_named(out, at, name_no(word), next)
+    name_record(name_no(word), next)
 }
 
 #[tactic(auto, unfolding(listing::specs::Telling::takes_next))]
 fn takes_next(word: &[u8]) -> bool
     ensures { result ≡ telling.takes_next word.now }
 {
-    named(14, word) | named(15, word)
+    named(14, word) || named(15, word)
 }
 
 // The sheet that a text tells.
 
-// How many type words there are, where the next word starts, and how much of the sheet is put.
-#[derive(Clone, Copy)]
-struct Types {
-    count: usize,
-    at: usize,
-    end: usize,
-}
-
-// The head, as yet without the length and the column count, and the type bytes.
-fn put_types(text: &[u8], out: &mut [u8]) -> Types
-    ensures { TypesPut text.now out.old out.new result }
+// The type bytes that the words after the first tell, and the text after their words.
+fn types(text: &[u8]) -> (ArrayVec<u8, TYPES>, &[u8])
+    ensures { TypesRead text.now result.0.items result.1.now }
 {
-    let mut end = text::put(out, 0, &[0, 0, 1, 0]);
-    let first = word_from(text, 0);
-    let mut from = word_from(text, word_to(text, first));
-    let mut count = 0;
-    while count < Sheet::COLUMNS {
-        let to = word_to(text, from);
-        let word = &text[from..to];
+    let mut types = ArrayVec::new();
+    let (_, mut left) = word_and_rest(text);
+    for _ in 0..TYPES {
+        let (word, rest) = word_and_rest(left);
         if !is_type(word) {
-            return Types {
-                count,
-                at: from,
-                end,
-            };
+            break;
         }
-        let types = [type_no(word)];
-        end = text::put(out, end, &types);
-        from = word_from(text, to);
-        count += 1;
+        types.push(type_no(word));
+        left = rest;
     }
-    Types {
-        count,
-        at: from,
-        end,
-    }
+    (types, left)
 }
 
-// The records that the words from `at` on tell, if there is room for all.
-fn put_records(text: &[u8], at: usize, out: &mut [u8], end: usize) -> usize
-    requires at_in_bounds { at ≤ length text.now }
-    requires end_in_bounds { end ≤ length out.old }
-    ensures { Fills (telling.records_told false (telling.words (drop at text.now))) out.old out.new end result }
+// The records that the words of a text tell; None where no sheet has so many.
+fn records(text: &[u8]) -> Option<ArrayVec<u8, RECORDS>>
+    ensures { MatchOption result (6 * max_nodes < length (telling.records_told false (telling.words text.now))) (λ records. records.items ≡ telling.records_told false (telling.words text.now)) }
 {
-    let mut from = word_from(text, at);
-    let mut end = end;
-    while from < text.len() {
-        if out.len() - end < 6 {
-            return 0;
-        }
-        let to = word_to(text, from);
-        let next = word_from(text, to);
-        let next_to = word_to(text, next);
-        let word = &text[from..to];
-        end = put_told(out, end, word, &text[next..next_to]);
-        from = if takes_next(word) {
-            word_from(text, next_to)
-        } else {
-            next
-        };
+    let mut records = ArrayVec::new();
+    let mut left = text;
+    while let Some((word, rest)) = next_word(left) {
+        let (next, after) = word_and_rest(rest);
+        records
+            .try_extend_from_slice(&record_told(word, next))
+            .ok()?;
+        left = if takes_next(word) { after } else { rest };
     }
-    end
+    Some(records)
 }
 
-// The bytes that depend on what comes after them: the length and the column count.
-fn put_head(out: &mut [u8], n: usize, columns: usize)
-    requires { (4 ≤ length out.old) × (n < 65536) × (columns < 256) }
-    ensures { out.new ≡ slice_set (slice_set (slice_set out.old 0 (n / 256)) 1 (n % 256)) 3 columns }
+// A sheet of these type bytes and records.
+fn headed(types: &[u8], records: &[u8]) -> ArrayVec<u8, SHEET>
+    requires { (length types.now ≤ max_columns) × (length records.now ≤ 6 * max_nodes) }
+    ensures { result.items ≡ telling.headed types.now records.now }
 {
-    out[0] = (n / 256) as u8;
-    out[1] = (n % 256) as u8;
-    out[3] = columns as u8;
+    let n = 4 + types.len() + records.len();
+    let mut s = ArrayVec::new();
+    text::put(
+        &mut s,
+        &[(n / 256) as u8, (n % 256) as u8, 1, types.len() as u8],
+    );
+    text::put(&mut s, types);
+    text::put(&mut s, records);
+    s
 }
 
-fn tell(text: &[u8], out: &mut [u8]) -> usize
-    requires { length out.old ≡ max_sheet }
-    ensures { Tells text.now out.old out.new result }
+// The sheet that a text tells; None where it has more records than a sheet, and so is no listing.
+fn tell(text: &[u8]) -> Option<ArrayVec<u8, SHEET>>
+    ensures { MatchOption result (is_listing text.now ≡ false) (λ s. s.items ≡ telling.sheet_told text.now) }
 {
-    let types = put_types(text, out);
-    let n = put_records(text, types.at, out, types.end);
-    if n != 0 {
-        put_head(out, n, types.count);
+    let (types, left) = types(text);
+    let records = records(left)?;
+    Some(headed(types.as_slice(), records.as_slice()))
+}
+
+// The sheet that a listing tells, or the refusal of a text that is none.
+#[tactic(auto, unfolding(listing::specs::Answers::text_rule, listing::specs::Answers::is_listing, sheet::specs::Ruling::rule))]
+pub fn sheet(text: &[u8]) -> Result<ArrayVec<u8, SHEET>, Refusal>
+    ensures rule { told result ≡ text_rule text.now }
+    ensures bytes { IfOk result (λ s. s.items ≡ telling.sheet_told text.now) }
+{
+    match tell(text) {
+        Some(s) if writer::lists(s.as_slice(), text) => Ok(s),
+        _ => Err(Refusal::Text),
     }
-    n
 }
 
 // The reader.
-pub fn read(text: &[u8], room: &mut [u8]) -> Listed
+pub fn read(text: &[u8], room: &mut [u8]) -> Result<usize, Refusal>
     ensures { Answers (reader_rules text.now (length room.old)) (telling.sheet_told text.now) room.old room.new result }
 {
-    let mut s = Listed::sheet();
-    let n = tell(text, &mut s);
-    if !writer::lists(&s[..n], text) {
-        return Listed::Refused(Refusal::Text);
-    }
-    if room.len() < n {
-        return Listed::Refused(Refusal::Lent(Lent::Room));
-    }
-    text::put(room, 0, &s[..n]);
-    Listed::Length(n)
+    let s = sheet(text)?;
+    listing::answer(s.as_slice(), room)
 }

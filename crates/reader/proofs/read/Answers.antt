@@ -1,15 +1,14 @@
--- What the text tells is believed where the text is its listing.
-use Rattle.std.proofs.Common.{sym, ◌∙◌}
-use Rattle.reader.proofs.ReaderLaws.{read_refused, read_short, read_length}
+-- The text's refusal, or the answer by the room.
+use Rattle.std.proofs.Common.{◌≡◌, Err, rules}
+use Rattle.listing.specs.Answers.{reader_rules}
+use Rattle.listing.proofs.RoomLaws.{answer_first, answer_last}
 use Rattle.reader.proofs.read.Goals as goal
 
-pub returns-then-not-lists : goal.returns-then-not-lists
-returns-then-not-lists c = read_refused c.sheet-s.ensures c.tell-n.ensures _ (sym c.lists.ensures ∙ c.if-not-lists.true)
-
-pub returns-then-room-n : goal.returns-then-room-n
-returns-then-room-n c =
-    read_short c.sheet-s.ensures c.tell-n.ensures _ (sym c.lists.ensures ∙ c.if-not-lists.false) c.if-room-n.true
+pub returns-in_err-s : goal.returns-in_err-s
+unfolding reader_rules
+returns-in_err-s c =
+    let e : c.from_residual.result ≡ Err c.in_err-s.field-0.0 = search rules in rw e (answer_first _ c.in_err-s.ensures.rule)
 
 pub returns : goal.returns
-returns c =
-    read_length c.sheet-s.ensures c.tell-n.ensures _ (sym c.lists.ensures ∙ c.if-not-lists.false) c.if-room-n.false c.put.ensures
+unfolding reader_rules
+returns c = answer_last _ c.in_ok-s.ensures.rule (rw (c.as_slice.ensures.value, c.in_ok-s.ensures.bytes) at c.answer.ensures)

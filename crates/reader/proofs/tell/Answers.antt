@@ -1,10 +1,12 @@
--- The head, the type bytes and the records are put one after the other, and then what of the head depends on them.
-use Rattle.std.proofs.Common.{arith}
-use Rattle.reader.proofs.ReaderLaws.{tells_none, tells_all}
+-- No listing has more records than a sheet, and otherwise the sheet is put together.
+use Rattle.std.proofs.Common.{sym}
+use Rattle.reader.proofs.ToldLaws.{told_is, none_listed}
 use Rattle.reader.proofs.tell.Goals as goal
 
-pub returns-then-n-ne0 : goal.returns-then-n-ne0
-returns-then-n-ne0 c = rw c.put_head.ensures (tells_all (omega arith) c.put_types-types.ensures c.put_records-n.ensures)
+pub returns-in_err-records : goal.returns-in_err-records
+returns-in_err-records c = rw c.from_residual.ensures (none_listed c.types-types.ensures c.in_err-records.ensures)
 
-pub returns-else-n-ne0 : goal.returns-else-n-ne0
-returns-else-n-ne0 c = tells_none (omega arith) c.put_types-types.ensures c.put_records-n.ensures c.if-n-ne0.false
+pub returns : goal.returns
+returns c =
+    rw (c.headed.ensures, c.as_slice.ensures.value, c.as_slice-2.ensures.value, c.in_ok-records.ensures)
+    (sym (told_is c.types-types.ensures))
