@@ -1,29 +1,14 @@
--- How the text comes about in a lent buffer: a line, all of the text, and the lines of the ticks so far.
+-- How the text comes about: the most that it has of each part, and the lines of the ticks so far.
 use Rattle.std.specs.Prelude.{ℕ, ◌*◌, ◌≤◌, ◌≡◌, List, ℤ, length}
-use Rattle.text.specs.Text.{Puts}
-use Rattle.sheet.specs.Ceilings.{max_columns, max_nodes, max_slots}
-use Rattle.sheet.specs.Bytes.{nodes, columns}
-use Rattle.sheet.specs.declared.Sheet.{Sheet}
-use Rattle.rules.specs.Types.{type_at}
+use Rattle.text.specs.Text.{Appends}
+use Rattle.sheet.specs.Ceilings.{max_columns}
+use Rattle.sheet.specs.Bytes.{nodes}
 use Rattle.rules.specs.Slots.{slots}
-use Rattle.rules.specs.Check.{Sound}
 use Rattle.meaning.specs.Equations.{Means}
 use Rattle.meaning.specs.Cells.{cells_at}
 use Rattle.engine.specs.Rows.{row_at}
 use Rattle.engine.specs.Operations.{max_rows}
-use Rattle.console.specs.Sheetrun.{tick_lines}
-
--- what Check's answer says of an accepted sheet
-pub record AcceptedAs (s : List ℕ) (z : Sheet) : Type 0 where
-  pub sound : Sound s
-  pub nodes_are : z.nodes ≡ nodes s
-  pub columns_are : z.columns ≡ columns s
-  pub slots_are : z.slots ≡ slots s
-  pub root_is : z.root ≡ type_at s 0
-  -- and so it is within the ceilings
-  pub few-nodes : z.nodes ≤ max_nodes
-  pub few-columns : z.columns ≤ max_columns
-  pub few-slots : z.slots ≤ max_slots
+use Rattle.console.specs.Sheetrun.{tick_lines, max_output}
 
 -- the most ints that rows can have: 256 rows of 16
 abbrev pub max_ints : ℕ
@@ -33,9 +18,13 @@ max_ints = max_rows * max_columns
 abbrev pub max_line : ℕ
 max_line = 29
 
--- after t ticks: whatever values meet the equations, the cells are theirs and the lines of their ticks are appended
-pub record TicksPut (s : List ℕ) (rows : List ℤ) (t : ℕ) (cells values : List ℤ) (before after : List ℕ) (at r : ℕ) : Type 0 where
+-- a run's first t lines are appended to a text, and they are short
+pub record LinesPut (s : List ℕ) (X : ℕ → ℕ → ℤ) (t : ℕ) (before after : List ℕ) : Type 0 where
+  pub appends : Appends max_output (tick_lines s X t) before after
+  pub short : length (tick_lines s X t) ≤ max_line * t
+
+-- after t ticks: whatever values meet the equations, the cells are theirs and the lines of their ticks are put
+pub record TicksPut (s : List ℕ) (rows : List ℤ) (t : ℕ) (cells values : List ℤ) (before after : List ℕ) : Type 0 where
   pub cells-size : length cells ≡ slots s
   pub values-size : length values ≡ nodes s
-  pub same_length : length after ≡ length before
-  pub lines : (X : ℕ → ℕ → ℤ) → Means s (row_at s rows) X → (cells ≡ cells_at s X t) × Puts (max_line * t) (tick_lines s X t) before after at r
+  pub lines : (X : ℕ → ℕ → ℤ) → Means s (row_at s rows) X → (cells ≡ cells_at s X t) × LinesPut s X t before after

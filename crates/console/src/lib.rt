@@ -1,27 +1,26 @@
 // What sheetrun prints: from the bytes of standard input to the bytes of standard output, over the public operations alone.
 #![tactic(auto)]
 
-ghost use Rattle.std.specs.Prelude.{◌≡◌, ℕ, ◌+◌, ◌*◌, ◌/◌, ◌<◌, ◌≤◌, min, ℤ, length};
-ghost use Rattle.text.specs.Text.{Appends, Puts, Prints};
-ghost use Rattle.sheet.specs.Ruling.{passed};
+ghost use Rattle.std.specs.Prelude.{◌≡◌, ℕ, ◌*◌, ◌/◌, ◌+◌, ◌<◌, ◌≤◌, true, ℤ, length, IfOk};
+ghost use Rattle.text.specs.Text.{Appends, Prints};
+ghost use Rattle.sheet.specs.Ceilings.{max_nodes, max_columns, max_slots};
+ghost use Rattle.sheet.specs.Ruling.{passed, passes, told, number_of, place_of};
 ghost use Rattle.sheet.specs.Bytes as bytes;
-ghost use Rattle.rules.specs.Slots.{slots};
+ghost use Rattle.words.specs.Words.{refused_line};
+ghost use Rattle.rules.specs.Check as check;
 ghost use Rattle.meaning.specs.Equations.{Means};
 ghost use Rattle.engine.specs.Rows.{row_rule, row_at};
 ghost use Rattle.engine.specs.Operations.{max_rows, run_rules};
 ghost use Rattle.console.specs.Sheetrun as printed;
-ghost use Rattle.console.specs.Printing.{AcceptedAs, max_ints, max_line};
+ghost use Rattle.console.specs.Printing.{max_ints, max_line, LinesPut};
 
-use engine::{Ran, RunState, Ticked};
+use arrayvec::ArrayVec;
+use engine::RunState;
 use meaning::Verdict;
-use rules::Checked;
 use sheet::{Lent, Node, Refusal, Sheet};
 
-// An input: how many of its first bytes are the sheet. The rest are rows.
-#[derive(Clone, Copy)]
-pub struct Input {
-    pub sheet: usize,
-}
+// The sizes of an input and of what is printed of it.
+pub struct Input;
 
 impl Input {
     // An input of more bytes is refused before anything else is looked at.
@@ -32,16 +31,6 @@ impl Input {
 
     // Room for any text that is printed.
     pub const TEXT: usize = 8192;
-
-    // The sheet is cut by its own first two bytes, all of the input if there are fewer.
-    fn cut(input: &[u8]) -> Self
-        ensures { result.sheet ≡ min (bytes.stated input.now) (length input.now) }
-    {
-        let stated = sheet::byte(input, 0) as usize * 256 + sheet::byte(input, 1) as usize;
-        Self {
-            sheet: stated.min(input.len()),
-        }
-    }
 
     // Room for an input: one byte more than is looked at, so that a longer one is seen to be longer.
     pub fn bytes() -> [u8; Input::BYTES + 1]
@@ -56,73 +45,91 @@ impl Input {
         [0; Input::TEXT]
     }
 
+    // Ints to read the rows into. Written in place, they would stand whole in every goal.
     fn ints() -> [i32; Input::INTS]
         ensures { length result ≡ max_ints }
     {
         [0; Input::INTS]
     }
-
-    fn outputs() -> [i32; RunState::ROWS]
-        ensures { length result ≡ max_rows }
-    {
-        [0; RunState::ROWS]
-    }
 }
+
+// A text in room for any that is printed.
+type Text = ArrayVec<u8, { Input::TEXT }>;
 
 // The lines.
 
-pub fn put_ok(out: &mut [u8], at: usize, z: Sheet) -> usize
-    ensures { Appends (printed.ok_line z.nodes z.columns z.slots z.root) out.old out.new at result }
+#[tactic(auto, using(text::proofs::TextLaws::append_then), unfolding(crate::specs::Sheetrun::ok_line))]
+pub fn put_ok<const N: usize>(out: &mut ArrayVec<u8, N>, z: Sheet)
+    ensures { Appends N (printed.ok_line z.nodes z.columns z.slots z.root) out.old.items out.new.items }
 {
-    let at = text::put(out, at, b"ok ");
-    let at = text::put_decimal(out, at, z.nodes as u64);
-    let at = text::put(out, at, b" ");
-    let at = text::put_decimal(out, at, z.columns as u64);
-    let at = text::put(out, at, b" ");
-    let at = text::put_decimal(out, at, z.slots as u64);
-    let at = text::put(out, at, b" ");
-    let root = z.root;
-    let at = words::put_type(out, at, root);
-    text::put(out, at, b"\n")
+    text::put(out, b"ok ");
+    text::put_decimal(out, z.nodes as u64);
+    text::put(out, b" ");
+    text::put_decimal(out, z.columns as u64);
+    text::put(out, b" ");
+    text::put_decimal(out, z.slots as u64);
+    text::put(out, b" ");
+    words::put_type(out, z.root);
+    text::put(out, b"\n");
 }
 
-fn put_verdict(out: &mut [u8], at: usize, v: Verdict) -> usize
-    ensures { Appends (printed.verdict_word v) out.old out.new at result }
+fn put_verdict<const N: usize>(out: &mut ArrayVec<u8, N>, v: Verdict)
+    ensures { Appends N (printed.verdict_word v) out.old.items out.new.items }
 {
-    match v {
-        Verdict::Pass => text::put(out, at, b"pass"),
-        Verdict::Fail => text::put(out, at, b"fail"),
-        Verdict::Caller => text::put(out, at, b"caller"),
-        Verdict::Body => text::put(out, at, b"body"),
-    }
+    let word: &[u8] = match v {
+        Verdict::Pass => b"pass",
+        Verdict::Fail => b"fail",
+        Verdict::Caller => b"caller",
+        Verdict::Body => b"body",
+    };
+    text::put(out, word);
 }
 
-pub fn put_lowest(out: &mut [u8], at: usize, w: Option<(Node, Verdict)>) -> usize
-    ensures { Puts 12 (printed.lowest_words w) out.old out.new at result }
+#[tactic(auto, using(text::proofs::TextLaws::append_then, crate::proofs::LineLaws::failing_length))]
+pub fn put_lowest<const N: usize>(out: &mut ArrayVec<u8, N>, lowest: Option<(Node, Verdict)>)
+    ensures text { Appends N (printed.lowest_words lowest) out.old.items out.new.items }
+    ensures short { length (printed.lowest_words lowest) ≤ 12 }
 {
-    match w {
-        None => text::put(out, at, b"pass"),
+    match lowest {
+        None => put_verdict(out, Verdict::Pass),
         Some((i, v)) => {
-            let at = put_verdict(out, at, v);
-            let at = text::put(out, at, b" ");
-            text::put_decimal(out, at, i.0 as u64)
+            put_verdict(out, v);
+            text::put(out, b" ");
+            text::put_decimal(out, u64::from(i.0));
         }
     }
 }
 
-fn put_tick(out: &mut [u8], at: usize, t: usize, value: i32, w: Option<(Node, Verdict)>) -> usize
+#[tactic(auto, using(text::proofs::TextLaws::append_then), unfolding(crate::specs::Sheetrun::tick_line))]
+fn put_tick<const N: usize>(
+    out: &mut ArrayVec<u8, N>,
+    t: usize,
+    value: i32,
+    lowest: Option<(Node, Verdict)>,
+)
     requires { t < 1000 }
-    ensures { Puts max_line (printed.tick_line t value w) out.old out.new at result }
+    ensures text { Appends N (printed.tick_line t value lowest) out.old.items out.new.items }
+    ensures short { length (printed.tick_line t value lowest) ≤ max_line }
 {
-    let at = text::put_decimal(out, at, t as u64);
-    let at = text::put(out, at, b" ");
-    let at = text::put_integer(out, at, value);
-    let at = text::put(out, at, b" ");
-    let at = put_lowest(out, at, w);
-    text::put(out, at, b"\n")
+    text::put_decimal(out, t as u64);
+    text::put(out, b" ");
+    text::put_integer(out, value);
+    text::put(out, b" ");
+    put_lowest(out, lowest);
+    text::put(out, b"\n");
 }
 
 // The input.
+
+// The sheet, cut by its own first two bytes, all of the input if there are fewer, and the rest.
+#[tactic(auto, using(std::proofs::lemmas::List::take_min, std::proofs::lemmas::List::drop_min), unfolding(crate::specs::Sheetrun::sheet_in, crate::specs::Sheetrun::rest))]
+fn cut(input: &[u8]) -> (&[u8], &[u8])
+    ensures sheet { result.0.now ≡ printed.sheet_in input.now }
+    ensures rest { result.1.now ≡ printed.rest input.now }
+{
+    let stated = usize::from(sheet::byte(input, 0)) * 256 + usize::from(sheet::byte(input, 1));
+    input.split_at(stated.min(input.len()))
+}
 
 fn broken_rows(columns: usize, bytes: usize) -> bool
     requires { columns < 256 }
@@ -138,6 +145,7 @@ fn ticks_in(columns: usize, bytes: usize) -> usize
     bytes.checked_div(4 * columns).unwrap_or(1)
 }
 
+#[tactic(auto, unfolding(crate::specs::Sheetrun::int_at))]
 fn int_at(bytes: &[u8], k: usize) -> i32
     requires { k < max_ints }
     ensures { result ≡ printed.int_at bytes.now k }
@@ -162,123 +170,123 @@ fn read_ints(bytes: &[u8], ints: &mut [i32])
 
 // The text.
 
-// The ticks, from a fresh start in the house order, a line each. Only what the public operations promise is used.
-fn put_ticks(
-    s: &[u8],
-    columns: usize,
-    rows: &[i32],
-    ticks: usize,
-    order: &mut [u16],
-    cells: &mut [i32],
-    values: &mut [i32],
-    out: &mut [u8],
-    at: usize,
-) -> usize
-    requires ticks_value { run_rules s.now rows.now ticks ≡ passed }
-    requires columns_value { columns ≡ bytes.columns s.now }
-    requires order_len { length order.old ≡ bytes.nodes s.now }
-    requires cells_len { length cells.old ≡ slots s.now }
-    requires values_len { length values.old ≡ bytes.nodes s.now }
-    ensures { (X : ℕ → ℕ → ℤ) → Means s.now (row_at s.now rows.now) X → Puts (max_line * ticks) (printed.tick_lines s.now X ticks) out.old out.new at result }
-{
-    order::house_order(s, order);
-    engine::start(s, cells);
-    let mut end = at;
-    for t in 0..ticks {
-        let from = t * columns;
-        let to = from + columns;
-        let ticked = engine::tick(s, &rows[from..to], cells, &*order, values);
-        match ticked {
-            Ticked::Done(a) => {
-                let lowest = a.lowest;
-                end = put_tick(out, end, t, a.root, lowest);
-            }
-            Ticked::Refused(_) => {
-                return end;
-            }
+// An accepted sheet, with Check's answer.
+#[derive(Clone, Copy)]
+struct Accepted<'a> {
+    s: &'a [u8],
+    sheet: Sheet,
+    ghost passes: { passes (check.rules s.now) ≡ true },
+    ghost answered: { sheet ≡ check.sheet s.now },
+    ghost few_nodes: { sheet.nodes ≤ max_nodes },
+    ghost few_columns: { sheet.columns ≤ max_columns },
+    ghost few_slots: { sheet.slots ≤ max_slots },
+}
+
+impl<'a> Accepted<'a> {
+    // The ticks, from a fresh start in the house order, a line each. Only what the public operations promise is used.
+    #[tactic(auto, using(crate::proofs::AcceptedLaws::length_part))]
+    fn put_ticks(self, rows: &[i32], ticks: usize, out: &mut Text)
+        requires { run_rules self.s.now rows.now ticks ≡ passed }
+        ensures { (X : ℕ → ℕ → ℤ) → Means self.entry.s.now (row_at self.entry.s.now rows.now) X → LinesPut self.entry.s.now X ticks out.old.items out.new.items }
+    {
+        let s = self.s;
+        let z = self.sheet;
+        let mut order = Sheet::fresh();
+        let mut cells = RunState::cells();
+        let mut values = RunState::values();
+        let order = &mut order[..z.nodes];
+        let cells = &mut cells[..z.slots];
+        let values = &mut values[..z.nodes];
+        let _ = order::house_order(s, order);
+        let _ = engine::start(s, cells);
+        for t in 0..ticks {
+            let from = t * z.columns;
+            let row = &rows[from..from + z.columns];
+            let Ok(answer) = engine::tick(s, row, cells, &*order, values) else {
+                return;
+            };
+            put_tick(out, t, answer.root, answer.lowest);
         }
     }
-    end
-}
 
-// An accepted sheet with rows that a run accepts: the first line, and the ticks.
-fn put_run(s: &[u8], z: Sheet, rows: &[i32], ticks: usize, out: &mut [u8]) -> usize
-    requires accepted_as { AcceptedAs s.now z }
-    requires ticks_value { run_rules s.now rows.now ticks ≡ passed }
-    ensures { Prints printed.max_output (printed.PrintedBy passed s.now rows.now ticks) out.old out.new result }
-{
-    let mut order = Sheet::fresh();
-    let mut cells = RunState::cells();
-    let mut values = RunState::values();
-    let n = z.nodes;
-    let k = z.slots;
-    let at = put_ok(out, 0, z);
-    put_ticks(
-        s,
-        z.columns,
-        rows,
-        ticks,
-        &mut order[..n],
-        &mut cells[..k],
-        &mut values[..n],
-        out,
-        at,
-    )
-}
+    // Of rows that a run accepts: the first line, and the ticks.
+    fn run_text(self, rows: &[i32], ticks: usize) -> Text
+        requires { run_rules self.s.now rows.now ticks ≡ passed }
+        ensures { printed.PrintedBy passed self.entry.s.now rows.now ticks result.items }
+    {
+        let mut text = ArrayVec::new();
+        put_ok(&mut text, self.sheet);
+        self.put_ticks(rows, ticks, &mut text);
+        text
+    }
 
-// An accepted sheet with whole rows, not too many: rule 13 is left.
-fn put_rows(s: &[u8], z: Sheet, rows: &[i32], ticks: usize, out: &mut [u8]) -> usize
-    requires accepted_as { AcceptedAs s.now z }
-    requires rows_len { (length rows.now ≡ ticks * bytes.columns s.now) × (ticks ≤ max_rows) }
-    ensures { Prints printed.max_output (printed.PrintedBy (row_rule s.now rows.now) s.now rows.now ticks) out.old out.new result }
-{
-    let mut outputs = Input::outputs();
-    let ran = engine::run(s, rows, &mut outputs[..ticks]);
-    match ran {
-        Ran::Finished(_) => put_run(s, z, rows, ticks, out),
-        Ran::Refused(r) => words::put_refusal(out, 0, r),
+    // Of whole rows, not too many: rule 13 is left.
+    fn rows_text(self, rows: &[i32], ticks: usize) -> Result<Text, Refusal>
+        requires { (length rows.now ≡ ticks * bytes.columns self.s.now) × (ticks ≤ max_rows) }
+        ensures rules { told result ≡ row_rule self.entry.s.now rows.now }
+        ensures text { IfOk result (λ text. printed.PrintedBy passed self.entry.s.now rows.now ticks text.items) }
+    {
+        let mut outputs = [0i32; RunState::ROWS];
+        engine::run(self.s, rows, &mut outputs[..ticks])?;
+        Ok(self.run_text(rows, ticks))
+    }
+
+    // Of the bytes of whole rows, not too many.
+    fn ints_text(self, rest: &[u8], ticks: usize) -> Result<Text, Refusal>
+        requires { (length rest.now / 4 ≡ ticks * bytes.columns self.s.now) × (ticks ≤ max_rows) × (length rest.now / 4 ≤ max_ints) }
+        ensures rules { told result ≡ row_rule self.entry.s.now (printed.ints rest.now) }
+        ensures text { IfOk result (λ text. printed.PrintedBy passed self.entry.s.now (printed.ints rest.now) ticks text.items) }
+    {
+        let n = rest.len() / 4;
+        let mut ints = Input::ints();
+        read_ints(rest, &mut ints[..n]);
+        self.rows_text(&ints[..n], ticks)
+    }
+
+    // Of the bytes after the sheet.
+    fn rest_text(self, rest: &[u8]) -> Result<Text, Refusal>
+        ensures rules { told result ≡ printed.rest_rules self.entry.s.now rest.now }
+        ensures text { IfOk result (λ text. printed.PrintedBy passed self.entry.s.now (printed.ints rest.now) (printed.ticks_by (bytes.columns self.entry.s.now) (length rest.now)) text.items) }
+    {
+        let columns = self.sheet.columns;
+        if broken_rows(columns, rest.len()) {
+            return Err(Refusal::Lent(Lent::Rows));
+        }
+        let ticks = ticks_in(columns, rest.len());
+        if RunState::ROWS < ticks {
+            return Err(Refusal::Lent(Lent::Outputs));
+        }
+        self.ints_text(rest, ticks)
     }
 }
 
-// An accepted sheet with the bytes of whole rows, not too many.
-fn put_ints(s: &[u8], z: Sheet, rest: &[u8], ticks: usize, out: &mut [u8]) -> usize
-    requires accepted_as { AcceptedAs s.now z }
-    requires rest_len { (length rest.now / 4 ≡ ticks * bytes.columns s.now) × (ticks ≤ max_rows) × (length rest.now / 4 ≤ max_ints) }
-    ensures { Prints printed.max_output (printed.PrintedBy (row_rule s.now (printed.ints rest.now)) s.now (printed.ints rest.now) ticks) out.old out.new result }
+// All that is printed of an input that no rule refuses.
+fn accepted_text(input: &[u8]) -> Result<Text, Refusal>
+    ensures rules { told result ≡ printed.input_rules input.now }
+    ensures text { IfOk result (λ text. printed.PrintedBy passed (printed.sheet_in input.now) (printed.rows_in input.now) (printed.ticks input.now) text.items) }
 {
-    let n = rest.len() / 4;
-    let mut ints = Input::ints();
-    read_ints(rest, &mut ints[..n]);
-    put_rows(s, z, &ints[..n], ticks, out)
+    if Input::BYTES < input.len() {
+        return Err(Refusal::Length);
+    }
+    let (s, rest) = cut(input);
+    let sheet = rules::check(s)?;
+    let accepted = Accepted { s, sheet };
+    accepted.rest_text(rest)
 }
 
-// An accepted sheet, and the bytes after it.
-fn put_rest(s: &[u8], z: Sheet, rest: &[u8], out: &mut [u8]) -> usize
-    requires { AcceptedAs s.now z }
-    ensures { Prints printed.max_output (printed.PrintedBy (printed.rest_rules s.now rest.now) s.now (printed.ints rest.now) (printed.ticks_by (bytes.columns s.now) (length rest.now))) out.old out.new result }
+// All that is printed of one that is refused.
+fn refused_text(r: Refusal) -> Text
+    ensures { result.items ≡ refused_line (number_of r) (place_of r) }
 {
-    let bytes = rest.len();
-    if broken_rows(z.columns, bytes) {
-        return words::put_refusal(out, 0, Refusal::Lent(Lent::Rows));
-    }
-    let ticks = ticks_in(z.columns, bytes);
-    if RunState::ROWS < ticks {
-        return words::put_refusal(out, 0, Refusal::Lent(Lent::Outputs));
-    }
-    put_ints(s, z, rest, ticks, out)
+    let mut text = ArrayVec::new();
+    words::put_refusal(&mut text, r);
+    text
 }
 
 // All that sheetrun prints of an input, at the start of `out`; what is returned is its length.
 pub fn sheetrun(input: &[u8], out: &mut [u8]) -> usize
     ensures { Prints printed.max_output (printed.Printed input.now) out.old out.new result }
 {
-    if Input::BYTES < input.len() {
-        return words::put_refusal(out, 0, Refusal::Length);
-    }
-    let cut = Input::cut(input).sheet;
-    let checked = rules::check(&input[..cut]);
-    match checked {
-        Checked::Refused(r) => words::put_refusal(out, 0, r),
-        Checked::Accepted(z) => put_rest(&input[..cut], z, &input[cut..], out),
-    }
+    let text = accepted_text(input).unwrap_or_else(refused_text);
+    text::copy_out(text.as_slice(), out)
 }

@@ -5,10 +5,9 @@ use Rattle.console.proofs.put_ok.Goals as goal
 
 pub returns : goal.returns
 unfolding ok_line
-returns c =
-    append_then c.put-at.ensures
-    (append_then c.put_decimal-at.ensures
-    (append_then c.put-at-2.ensures
-    (append_then c.put_decimal-at-2.ensures
-    (append_then c.put-at-3.ensures
-    (append_then c.put_decimal-at-3.ensures (append_then c.put-at-4.ensures (append_then c.put_type-at.ensures c.put.ensures)))))))
+returns g c =
+    append_then c.put.ensures
+    (append_then c.put_decimal.ensures
+    (append_then c.put-2.ensures
+    (append_then c.put_decimal-2.ensures
+    (append_then c.put-3.ensures (append_then c.put_decimal-3.ensures (append_then c.put-4.ensures (append_then c.put_type.ensures c.put-5.ensures)))))))
