@@ -1,15 +1,21 @@
 // What sheetlist and sheetread print: from the bytes of standard input to the bytes of standard output.
 #![tactic(auto)]
 
-ghost use Rattle.std.specs.Prelude.{◌≡◌, ◌≤◌, length, take};
+ghost use Rattle.std.specs.Prelude.{◌≡◌, length, ◌++◌, IfOk};
 ghost use Rattle.text.specs.Text.{Prints};
+ghost use Rattle.sheet.specs.Ruling.{told};
+ghost use Rattle.sheet.specs.Form.{form};
+ghost use Rattle.listing.specs.Listing.{listing};
+ghost use Rattle.text.specs.Text.{feed};
 ghost use Rattle.exchange.specs.Exchange as printed;
 
-use listing::Listed;
+use arrayvec::ArrayVec;
+use listing::{SHEET, TEXT};
+use sheet::Refusal;
 
 // Room for all that is printed: a listing and a line feed.
 
-const ROOM: usize = Listed::TEXT + 1;
+const ROOM: usize = TEXT + 1;
 
 pub fn room() -> [u8; ROOM]
     ensures { length result ≡ printed.max_printed }
@@ -17,36 +23,55 @@ pub fn room() -> [u8; ROOM]
     [0; ROOM]
 }
 
-// All that sheetlist prints of an input, at the start of `out`; what is returned is its length.
+// A sheet's listing and a line feed.
+fn listing_line(input: &[u8]) -> Result<ArrayVec<u8, ROOM>, Refusal>
+    ensures form { told result ≡ form input.now }
+    ensures text { IfOk result (λ text. text.items ≡ listing input.now ++ feed) }
+{
+    let listing = writer::listing(input)?;
+    let mut text = ArrayVec::new();
+    text::put(&mut text, listing.as_slice());
+    text::put(&mut text, b"\n");
+    Ok(text)
+}
+
+// The text of an input: a line feed at its end is none of it.
+#[tactic(auto, unfolding(crate::specs::Exchange::text_in))]
+fn text_in(input: &[u8]) -> &[u8]
+    ensures { result.now ≡ printed.text_in input.now }
+{
+    match input {
+        [text @ .., b'\n'] => text,
+        _ => input,
+    }
+}
+
+// What is printed: a result, or its refusal.
+
+#[tactic(auto, using(crate::proofs::ExchangeLaws::printed_result, crate::proofs::ExchangeLaws::printed_refusal), unfolding(crate::specs::Exchange::sheetlist))]
+fn list(input: &[u8]) -> ArrayVec<u8, ROOM>
+    ensures { result.items ≡ printed.sheetlist input.now }
+{
+    listing_line(input).unwrap_or_else(words::refusal)
+}
+
+#[tactic(auto, using(crate::proofs::ExchangeLaws::printed_result, crate::proofs::ExchangeLaws::printed_refusal), unfolding(crate::specs::Exchange::sheetread))]
+fn read(input: &[u8]) -> ArrayVec<u8, SHEET>
+    ensures { result.items ≡ printed.sheetread input.now }
+{
+    reader::sheet(text_in(input)).unwrap_or_else(words::refusal)
+}
+
+// All that sheetlist and sheetread print of an input, at the start of `out`; what is returned is its length.
+
 pub fn sheetlist(input: &[u8], out: &mut [u8]) -> usize
     ensures { Prints printed.max_printed (λ t. t ≡ printed.sheetlist input.now) out.old out.new result }
 {
-    let listed = writer::write(input, out);
-    match listed {
-        Listed::Refused(r) => words::put_refusal(out, 0, r),
-        Listed::Length(n) => text::put(out, n, b"\n"),
-    }
+    text::copy_out(list(input).as_slice(), out)
 }
 
-// How much of an input is the text: a line feed at its end is not.
-fn text_size(input: &[u8]) -> usize
-    ensures { (result ≤ length input.now) × (take result input.now ≡ printed.text_in input.now) }
-{
-    let n = input.len();
-    if n == 0 {
-        return 0;
-    }
-    if input[n - 1] == b'\n' { n - 1 } else { n }
-}
-
-// The same for sheetread.
 pub fn sheetread(input: &[u8], out: &mut [u8]) -> usize
     ensures { Prints printed.max_printed (λ t. t ≡ printed.sheetread input.now) out.old out.new result }
 {
-    let n = text_size(input);
-    let listed = reader::read(&input[..n], out);
-    match listed {
-        Listed::Refused(r) => words::put_refusal(out, 0, r),
-        Listed::Length(n) => n,
-    }
+    text::copy_out(read(input).as_slice(), out)
 }

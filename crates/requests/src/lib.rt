@@ -1,22 +1,64 @@
 // sheetop: runs any operation on the requests of an input, and prints its answer and the end contents of every lent slice.
 #![tactic(auto)]
 
-use engine::{Answer, Ran, Ticked};
-use listing::Listed;
-use rules::Checked;
-use sheet::{Judged, Refusal};
+use arrayvec::ArrayVec;
+use engine::Answer;
+use sheet::Refusal;
 use std::io;
 
-// A request: its letter, and how many sheet bytes or bytes of text, ints of the rows, cells, order entries, and values, outputs or bytes
+// Why the requests end: the input does, one is bad, or a read or a write failed.
+#[derive(Drop)]
+enum End {
+    Input,
+    BadRequest,
+    Failed(io::Error),
+}
+
+impl From<io::Error> for End {
+    fn from(e: io::Error) -> End {
+        End::Failed(e)
+    }
+}
+
+// The operations, by their letters.
+#[derive(Clone, Copy, Debug, PartialEq, Eq)]
+enum Operation {
+    Check,
+    House,
+    Start,
+    Tick,
+    Run,
+    Write,
+    Read,
+}
+
+impl TryFrom<u8> for Operation {
+    type Error = End;
+
+    fn try_from(letter: u8) -> Result<Operation, End> {
+        match letter {
+            b'c' => Ok(Operation::Check),
+            b'h' => Ok(Operation::House),
+            b's' => Ok(Operation::Start),
+            b't' => Ok(Operation::Tick),
+            b'r' => Ok(Operation::Run),
+            b'w' => Ok(Operation::Write),
+            b'l' => Ok(Operation::Read),
+            _ => Err(End::BadRequest),
+        }
+    }
+}
+
+// A request: its operation, and how many sheet bytes or bytes of text, ints of the rows, cells, order entries, and values, outputs or bytes
 // of room it has.
 #[derive(Clone, Copy)]
 struct Request {
-    letter: u8,
-    sheet: usize,
-    rows: usize,
-    cells: usize,
-    order: usize,
-    out: usize,
+    operation: Operation,
+    sheet: u16,
+    rows: u16,
+    cells: u16,
+    order: u16,
+    out: u16,
 }
 
 impl Request {
@@ -29,6 +71,22 @@ impl Request {
     const ORDER: usize = 1024;
 
     const OUT: usize = 16384;
+
+    // Each length that the operation does not use is 0.
+    fn is_fit(self) -> bool {
+        match self.operation {
+            Operation::Check => {
+                self.rows == 0 && self.cells == 0 && self.order == 0 && self.out == 0
+            }
+            Operation::House => self.rows == 0 && self.cells == 0 && self.out == 0,
+            Operation::Start => self.rows == 0 && self.order == 0 && self.out == 0,
+            Operation::Tick => true,
+            Operation::Run => self.cells == 0 && self.order == 0,
+            Operation::Write | Operation::Read => {
+                self.rows == 0 && self.cells == 0 && self.order == 0
+            }
+        }
+    }
 }
 
 // What values and outputs are lent with, the writer's room and the reader's.
@@ -39,69 +97,104 @@ const LENT_TEXT: u8 = 35;
 
 const LENT_BYTES: u8 = 170;
 
-fn say<W: io::Write>(to: &mut W, words: &[u8]) -> io::Result<()> {
-    to.write_all(words)
-}
+// Reading.
 
-fn say_line<W: io::Write>(to: &mut W, line: &[u8], at: usize) -> io::Result<()> {
-    if at <= line.len() {
-        to.write_all(&line[..at])?;
+fn fill<R: io::Read>(from: &mut R, bytes: &mut [u8]) -> Result<(), End> {
+    if intake::read_full(from, bytes)? < bytes.len() {
+        return Err(End::BadRequest);
     }
     Ok(())
 }
 
-fn end_line<W: io::Write>(to: &mut W, line: &mut [u8; 4096], at: usize) -> io::Result<()> {
-    let at = text::put(line, at, b"\n");
-    say_line(to, line, at)
-}
-
-// A lent slice: its name and its entries. A line that gets long is written out in pieces.
-
-fn in_pieces<W: io::Write>(to: &mut W, line: &mut [u8; 4096], at: usize) -> io::Result<usize> {
-    if 4000 < at {
-        say_line(to, line, at)?;
-        Ok(0)
+// The head of the next request, if the input has one.
+fn read_request<R: io::Read>(from: &mut R) -> Result<Request, End> {
+    let mut head = [0u8; 11];
+    let got = intake::read_full(from, &mut head)?;
+    if got == 0 {
+        return Err(End::Input);
+    }
+    if got < 11 {
+        return Err(End::BadRequest);
+    }
+    let request = Request {
+        operation: Operation::try_from(head[0])?,
+        sheet: u16::from_be_bytes([head[1], head[2]]),
+        rows: u16::from_be_bytes([head[3], head[4]]),
+        cells: u16::from_be_bytes([head[5], head[6]]),
+        order: u16::from_be_bytes([head[7], head[8]]),
+        out: u16::from_be_bytes([head[9], head[10]]),
+    };
+    if request.is_fit() {
+        Ok(request)
     } else {
-        Ok(at)
+        Err(End::BadRequest)
     }
 }
 
-fn put_entry<W: io::Write>(
-    to: &mut W,
-    line: &mut [u8; 4096],
-    at: usize,
-    v: i32,
-) -> io::Result<usize> {
-    let at = text::put(line, at, b" ");
-    let at = text::put_integer(line, at, v);
-    in_pieces(to, line, at)
+// A number as a request has it.
+trait Wire: Sized {
+    fn read<R: io::Read>(from: &mut R) -> Result<Self, End>;
 }
 
-fn say_ints<W: io::Write>(to: &mut W, name: &[u8], xs: &[i32]) -> io::Result<()> {
-    let mut line = [0u8; 4096];
-    let mut at = text::put(&mut line, 0, name);
-    for x in xs {
-        at = put_entry(to, &mut line, at, *x)?;
+impl Wire for i32 {
+    fn read<R: io::Read>(from: &mut R) -> Result<i32, End> {
+        let mut bytes = [0u8; 4];
+        fill(from, &mut bytes)?;
+        Ok(i32::from_be_bytes(bytes))
     }
-    end_line(to, &mut line, at)
 }
 
-fn say_entries<W: io::Write>(to: &mut W, name: &[u8], xs: &[u16]) -> io::Result<()> {
-    let mut line = [0u8; 4096];
-    let mut at = text::put(&mut line, 0, name);
-    for x in xs {
-        at = put_entry(to, &mut line, at, *x as i32)?;
+impl Wire for u16 {
+    fn read<R: io::Read>(from: &mut R) -> Result<u16, End> {
+        let mut bytes = [0u8; 2];
+        fill(from, &mut bytes)?;
+        Ok(u16::from_be_bytes(bytes))
     }
-    end_line(to, &mut line, at)
 }
 
-fn say_text<W: io::Write>(to: &mut W, name: &[u8], text: &[u8]) -> io::Result<()> {
-    say(to, name)?;
-    if 0 < text.len() {
-        say(to, b" ")?;
-        say(to, text)?;
+// A slice of so many numbers, all one and the same, within the limit N.
+fn lent<T: Copy + Default, const N: usize>(count: u16, x: T) -> Result<ArrayVec<T, N>, End> {
+    let mut xs = ArrayVec::new();
+    for _ in 0..count {
+        if xs.try_push(x).is_err() {
+            return Err(End::BadRequest);
+        }
     }
-    say(to, b"\n")
+    Ok(xs)
+}
+
+// A slice of so many numbers, read, within the limit N.
+fn read_slice<R: io::Read, T: Wire + Copy + Default, const N: usize>(
+    from: &mut R,
+    count: u16,
+) -> Result<ArrayVec<T, N>, End> {
+    let mut xs: ArrayVec<T, N> = lent(count, T::default())?;
+    for x in xs.as_mut_slice().iter_mut() {
+        *x = T::read(from)?;
+    }
+    Ok(xs)
+}
+
+// Printing.
+
+// A line of what is printed. One that gets long is written out in pieces.
+type Line = ArrayVec<u8, 4096>;
+
+// A slice's entry, as it is printed.
+trait Entry {
+    fn put(self, line: &mut Line);
+}
+
+impl Entry for i32 {
+    fn put(self, line: &mut Line) {
+        text::put_integer(line, self);
+    }
+}
+
+impl Entry for u16 {
+    fn put(self, line: &mut Line) {
+        text::put_decimal(line, u64::from(self));
+    }
 }
 
 fn hexadecimal(digit: u8) -> u8 {
@@ -112,89 +205,88 @@ fn hexadecimal(digit: u8) -> u8 {
     }
 }
 
-fn put_byte<W: io::Write>(
-    to: &mut W,
-    line: &mut [u8; 4096],
-    at: usize,
-    b: u8,
-) -> io::Result<usize> {
-    let word = [b' ', hexadecimal(b / 16), hexadecimal(b % 16)];
-    let at = text::put(line, at, &word);
-    in_pieces(to, line, at)
+impl Entry for u8 {
+    fn put(self, line: &mut Line) {
+        text::put(line, &[hexadecimal(self / 16), hexadecimal(self % 16)]);
+    }
 }
 
-fn say_bytes<W: io::Write>(to: &mut W, name: &[u8], xs: &[u8]) -> io::Result<()> {
-    let mut line = [0u8; 4096];
-    let mut at = text::put(&mut line, 0, name);
+// A lent slice: its name and its entries.
+fn say_slice<W: io::Write, T: Entry + Copy>(to: &mut W, name: &[u8], xs: &[T]) -> io::Result<()> {
+    let mut line = Line::new();
+    text::put(&mut line, name);
     for x in xs {
-        at = put_byte(to, &mut line, at, *x)?;
+        text::put(&mut line, b" ");
+        x.put(&mut line);
+        if 4000 < line.len() {
+            to.write_all(line.as_slice())?;
+            line.clear();
+        }
     }
-    end_line(to, &mut line, at)
+    text::put(&mut line, b"\n");
+    to.write_all(line.as_slice())
 }
 
-// The answers.
-
-fn say_refusal<W: io::Write>(to: &mut W, r: Refusal) -> io::Result<()> {
-    let mut line = [0u8; 4096];
-    let at = words::put_refusal(&mut line, 0, r);
-    say_line(to, &line, at)
-}
-
-fn say_judged<W: io::Write>(to: &mut W, r: Judged) -> io::Result<()> {
-    match r {
-        Judged::Passed => say(to, b"ok\n"),
-        Judged::Refused(r) => say_refusal(to, r),
+// The writer's room, as it stands.
+fn say_text<W: io::Write>(to: &mut W, text: &[u8]) -> io::Result<()> {
+    to.write_all(b"text")?;
+    if !text.is_empty() {
+        to.write_all(b" ")?;
+        to.write_all(text)?;
     }
+    to.write_all(b"\n")
 }
 
-fn say_answer<W: io::Write>(to: &mut W, a: Answer) -> io::Result<()> {
-    let mut line = [0u8; 4096];
-    let at = text::put(&mut line, 0, b"ok ");
-    let at = text::put_integer(&mut line, at, a.root);
-    let at = text::put(&mut line, at, b" ");
-    let at = text::put_decimal(&mut line, at, a.failures as u64);
-    let at = text::put(&mut line, at, b" ");
-    let lowest = a.lowest;
-    let at = console::put_lowest(&mut line, at, lowest);
-    end_line(to, &mut line, at)
-}
-
-fn say_count<W: io::Write>(to: &mut W, n: usize) -> io::Result<()> {
-    let mut line = [0u8; 4096];
-    let at = text::put(&mut line, 0, b"ok ");
-    let at = text::put_decimal(&mut line, at, n as u64);
-    end_line(to, &mut line, at)
-}
-
-fn say_listed<W: io::Write>(to: &mut W, l: Listed) -> io::Result<()> {
-    match l {
-        Listed::Length(n) => say_count(to, n),
-        Listed::Refused(r) => say_refusal(to, r),
+// An operation's answer: the line that `put` makes of it, or the refusal.
+fn say<W: io::Write, T: Drop, F: FnOnce(&mut Line, T)>(
+    to: &mut W,
+    answer: Result<T, Refusal>,
+    put: F,
+) -> io::Result<()>
+    requires { F.IsAlwaysCallable put }
+{
+    let mut line = Line::new();
+    match answer {
+        Ok(x) => put(&mut line, x),
+        Err(r) => words::put_refusal(&mut line, r),
     }
+    to.write_all(line.as_slice())
+}
+
+fn put_done(line: &mut Line, _done: ()) {
+    text::put(line, b"ok\n");
+}
+
+fn put_count(line: &mut Line, n: usize) {
+    text::put(line, b"ok ");
+    text::put_decimal(line, n as u64);
+    text::put(line, b"\n");
+}
+
+fn put_answer(line: &mut Line, a: Answer) {
+    text::put(line, b"ok ");
+    text::put_integer(line, a.root);
+    text::put(line, b" ");
+    text::put_decimal(line, a.failures as u64);
+    text::put(line, b" ");
+    console::put_lowest(line, a.lowest);
+    text::put(line, b"\n");
 }
 
 // The operations.
 
 fn check<W: io::Write>(to: &mut W, s: &[u8]) -> io::Result<()> {
-    let checked = rules::check(s);
-    match checked {
-        Checked::Refused(r) => say_refusal(to, r),
-        Checked::Accepted(z) => {
-            let mut line = [0u8; 4096];
-            let at = console::put_ok(&mut line, 0, z);
-            say_line(to, &line, at)
-        }
-    }
+    say(to, rules::check(s), |line, z| console::put_ok(line, z))
 }
 
 fn house<W: io::Write>(to: &mut W, s: &[u8], order: &mut [u16]) -> io::Result<()> {
-    say_judged(to, order::house_order(s, order))?;
-    say_entries(to, b"order", &*order)
+    say(to, order::house_order(s, order), put_done)?;
+    say_slice(to, b"order", &*order)
 }
 
 fn start<W: io::Write>(to: &mut W, s: &[u8], cells: &mut [i32]) -> io::Result<()> {
-    say_judged(to, engine::start(s, cells))?;
-    say_ints(to, b"cells", &*cells)
+    say(to, engine::start(s, cells), put_done)?;
+    say_slice(to, b"cells", &*cells)
 }
 
 fn tick<W: io::Write>(
@@ -205,245 +297,78 @@ fn tick<W: io::Write>(
     order: &[u16],
     values: &mut [i32],
 ) -> io::Result<()> {
-    let ticked = engine::tick(s, row, cells, order, values);
-    match ticked {
-        Ticked::Done(a) => say_answer(to, a)?,
-        Ticked::Refused(r) => say_refusal(to, r)?,
-    }
-    say_ints(to, b"cells", &*cells)?;
-    say_ints(to, b"values", &*values)
+    say(to, engine::tick(s, row, cells, order, values), put_answer)?;
+    say_slice(to, b"cells", &*cells)?;
+    say_slice(to, b"values", &*values)
 }
 
 fn run<W: io::Write>(to: &mut W, s: &[u8], rows: &[i32], outputs: &mut [i32]) -> io::Result<()> {
-    let ran = engine::run(s, rows, outputs);
-    match ran {
-        Ran::Finished(failing) => say_count(to, failing)?,
-        Ran::Refused(r) => say_refusal(to, r)?,
-    }
-    say_ints(to, b"outputs", &*outputs)
+    say(to, engine::run(s, rows, outputs), put_count)?;
+    say_slice(to, b"outputs", &*outputs)
 }
 
 fn write<W: io::Write>(to: &mut W, s: &[u8], room: &mut [u8]) -> io::Result<()> {
-    say_listed(to, writer::write(s, room))?;
-    say_text(to, b"text", &*room)
+    say(to, writer::write(s, room), put_count)?;
+    say_text(to, &*room)
 }
 
 fn read<W: io::Write>(to: &mut W, text: &[u8], room: &mut [u8]) -> io::Result<()> {
-    say_listed(to, reader::read(text, room))?;
-    say_bytes(to, b"bytes", &*room)
+    say(to, reader::read(text, room), put_count)?;
+    say_slice(to, b"bytes", &*room)
 }
 
-fn perform<W: io::Write>(
-    to: &mut W,
-    letter: u8,
-    s: &[u8],
-    rows: &[i32],
-    cells: &mut [i32],
-    order: &mut [u16],
-    out: &mut [i32],
-) -> io::Result<()> {
-    match letter {
-        b'c' => check(to, s),
-        b'h' => house(to, s, order),
-        b's' => start(to, s, cells),
-        b't' => tick(to, s, rows, cells, &*order, out),
-        b'r' => run(to, s, rows, out),
-        _ => Ok(()),
-    }
-}
-
-// Reading.
-
-fn bad<W: io::Write>(to: &mut W) -> io::Result<bool> {
-    say(to, b"bad request\n")?;
-    Ok(false)
-}
-
-fn fill<R: io::Read>(from: &mut R, bytes: &mut [u8]) -> io::Result<bool> {
-    let got = intake::read_full(from, bytes)?;
-    Ok(got == bytes.len())
-}
-
-fn read_ints<R: io::Read>(from: &mut R, ints: &mut [i32]) -> io::Result<bool> {
-    for x in ints.iter_mut() {
-        let mut word = [0u8; 4];
-        if !fill(from, &mut word)? {
-            return Ok(false);
+// The rest of a request, and what its operation answers.
+fn serve<R: io::Read, W: io::Write>(from: &mut R, to: &mut W, r: Request) -> Result<(), End> {
+    let mut sheet: ArrayVec<u8, { Request::SHEET }> = lent(r.sheet, 0)?;
+    fill(from, sheet.as_mut_slice())?;
+    let rows: ArrayVec<i32, { Request::ROWS }> = read_slice(from, r.rows)?;
+    let mut cells: ArrayVec<i32, { Request::CELLS }> = read_slice(from, r.cells)?;
+    let mut order: ArrayVec<u16, { Request::ORDER }> = read_slice(from, r.order)?;
+    let s = sheet.as_slice();
+    match r.operation {
+        Operation::Check => check(to, s)?,
+        Operation::House => house(to, s, order.as_mut_slice())?,
+        Operation::Start => start(to, s, cells.as_mut_slice())?,
+        Operation::Tick => {
+            let mut values: ArrayVec<i32, { Request::OUT }> = lent(r.out, LENT)?;
+            tick(
+                to,
+                s,
+                rows.as_slice(),
+                cells.as_mut_slice(),
+                order.as_slice(),
+                values.as_mut_slice(),
+            )?;
         }
-        *x = number::of_bits(number::word(word[0], word[1], word[2], word[3]));
-    }
-    Ok(true)
-}
-
-fn pair(high: u8, low: u8) -> u16 {
-    high as u16 * 256 + low as u16
-}
-
-fn read_entries<R: io::Read>(from: &mut R, entries: &mut [u16]) -> io::Result<bool> {
-    for x in entries.iter_mut() {
-        let mut two = [0u8; 2];
-        if !fill(from, &mut two)? {
-            return Ok(false);
+        Operation::Run => {
+            let mut outputs: ArrayVec<i32, { Request::OUT }> = lent(r.out, LENT)?;
+            run(to, s, rows.as_slice(), outputs.as_mut_slice())?;
         }
-        *x = pair(two[0], two[1]);
+        Operation::Write => {
+            let mut room: ArrayVec<u8, { Request::OUT }> = lent(r.out, LENT_TEXT)?;
+            write(to, s, room.as_mut_slice())?;
+        }
+        Operation::Read => {
+            let mut room: ArrayVec<u8, { Request::OUT }> = lent(r.out, LENT_BYTES)?;
+            read(to, s, room.as_mut_slice())?;
+        }
     }
-    Ok(true)
+    Ok(())
 }
 
-// Whether the letter is known, and each length that its operation does not use is 0.
-fn known(r: Request) -> bool {
-    let letter = r.letter;
-    match letter {
-        b'c' => (r.rows == 0) & (r.cells == 0) & (r.order == 0) & (r.out == 0),
-        b'h' => (r.rows == 0) & (r.cells == 0) & (r.out == 0),
-        b's' => (r.rows == 0) & (r.order == 0) & (r.out == 0),
-        b't' => true,
-        b'r' => (r.cells == 0) & (r.order == 0),
-        b'w' | b'l' => (r.rows == 0) & (r.cells == 0) & (r.order == 0),
-        _ => false,
-    }
-}
-
-// Reads the rest of a request and performs it. Answers whether to go on.
-fn answer<R: io::Read, W: io::Write>(
-    from: &mut R,
-    to: &mut W,
-    letter: u8,
-    s: &mut [u8],
-    rows: &mut [i32],
-    cells: &mut [i32],
-    order: &mut [u16],
-    out: &mut [i32],
-) -> io::Result<bool> {
-    if !fill(from, &mut *s)? {
-        return bad(to);
-    }
-    if !read_ints(from, &mut *rows)? {
-        return bad(to);
-    }
-    if !read_ints(from, &mut *cells)? {
-        return bad(to);
-    }
-    if !read_entries(from, &mut *order)? {
-        return bad(to);
-    }
-    perform(to, letter, &*s, &*rows, cells, order, out)?;
-    Ok(true)
-}
-
-// Answers a request whose lengths are within their limits, and says that any other is bad. Answers whether to go on.
-fn serve<R: io::Read, W: io::Write>(from: &mut R, to: &mut W, r: Request) -> io::Result<bool> {
-    let l = r.sheet;
-    let n = r.rows;
-    let k = r.cells;
-    let o = r.order;
-    let w = r.out;
-    if Request::SHEET < l {
-        return bad(to);
-    }
-    if Request::ROWS < n {
-        return bad(to);
-    }
-    if Request::CELLS < k {
-        return bad(to);
-    }
-    if Request::ORDER < o {
-        return bad(to);
-    }
-    if Request::OUT < w {
-        return bad(to);
-    }
-    let mut s = [0u8; Request::SHEET];
-    let mut rows = [0i32; Request::ROWS];
-    let mut cells = [0i32; Request::CELLS];
-    let mut order = [0u16; Request::ORDER];
-    let mut out = [LENT; Request::OUT];
-    answer(
-        from,
-        to,
-        r.letter,
-        &mut s[..l],
-        &mut rows[..n],
-        &mut cells[..k],
-        &mut order[..o],
-        &mut out[..w],
-    )
-}
-
-// The same for the listing's writer and reader: reads the rest of a request and performs it.
-fn perform_listing<R: io::Read, W: io::Write>(
-    from: &mut R,
-    to: &mut W,
-    letter: u8,
-    s: &mut [u8],
-    room: &mut [u8],
-) -> io::Result<bool> {
-    if !fill(from, &mut *s)? {
-        return bad(to);
-    }
-    if letter == b'w' {
-        write(to, &*s, room)?;
-    } else {
-        read(to, &*s, room)?;
-    }
-    Ok(true)
-}
-
-fn serve_listing<R: io::Read, W: io::Write>(
-    from: &mut R,
-    to: &mut W,
-    letter: u8,
-    l: usize,
-    w: usize,
-) -> io::Result<bool> {
-    if Request::SHEET < l {
-        return bad(to);
-    }
-    if Request::OUT < w {
-        return bad(to);
-    }
-    let lent = if letter == b'w' {
-        LENT_TEXT
-    } else {
-        LENT_BYTES
-    };
-    let mut s = [0u8; Request::SHEET];
-    let mut room = [lent; Request::OUT];
-    perform_listing(from, to, letter, &mut s[..l], &mut room[..w])
-}
-
-// One request. Answers whether to go on.
-fn one_request<R: io::Read, W: io::Write>(from: &mut R, to: &mut W) -> io::Result<bool> {
-    let mut head = [0u8; 11];
-    let got = intake::read_full(from, &mut head)?;
-    if got == 0 {
-        return Ok(false);
-    }
-    if got < 11 {
-        return bad(to);
-    }
-    let r = Request {
-        letter: head[0],
-        sheet: pair(head[1], head[2]) as usize,
-        rows: pair(head[3], head[4]) as usize,
-        cells: pair(head[5], head[6]) as usize,
-        order: pair(head[7], head[8]) as usize,
-        out: pair(head[9], head[10]) as usize,
-    };
-    if !known(r) {
-        return bad(to);
-    }
-    if (r.letter == b'w') | (r.letter == b'l') {
-        return serve_listing(from, to, r.letter, r.sheet, r.out);
-    }
+fn one_request<R: io::Read, W: io::Write>(from: &mut R, to: &mut W) -> Result<(), End> {
+    let r = read_request(from)?;
     serve(from, to, r)
 }
 
 // All requests. A proved loop has to end: this one has so many turns that no input uses them up. The first read or write that fails ends it.
 pub fn serve_all<R: io::Read, W: io::Write>(from: &mut R, to: &mut W) -> io::Result<()> {
     for _ in 0..u64::MAX {
-        if !one_request(from, to)? {
-            return Ok(());
+        match one_request(from, to) {
+            Ok(()) => {}
+            Err(End::Input) => return Ok(()),
+            Err(End::BadRequest) => return to.write_all(b"bad request\n"),
+            Err(End::Failed(e)) => return Err(e),
         }
     }
     Ok(())

@@ -4,9 +4,11 @@
 use std::io;
 
 fn main(rt: HostRuntime) -> io::Result<()> {
-    let mut input = [0u8; 65536];
-    let n = intake::read_full(&mut rt.stdin(), &mut input)?;
-    let mut out = exchange::room();
-    let r = exchange::sheetread(&input[..n], &mut out);
-    rt.write_all(&out[..r])
+    intake::filter(
+        &mut rt.stdin(),
+        &mut rt.stdout(),
+        &mut [0; 65536],
+        &mut exchange::room(),
+        exchange::sheetread,
+    )
 }

@@ -5,9 +5,11 @@ use console::Input;
 use std::io;
 
 fn main(rt: HostRuntime) -> io::Result<()> {
-    let mut input = Input::bytes();
-    let n = intake::read_full(&mut rt.stdin(), &mut input)?;
-    let mut text = Input::text();
-    let r = console::sheetrun(&input[..n], &mut text);
-    rt.write_all(&text[..r])
+    intake::filter(
+        &mut rt.stdin(),
+        &mut rt.stdout(),
+        &mut Input::bytes(),
+        &mut Input::text(),
+        console::sheetrun,
+    )
 }

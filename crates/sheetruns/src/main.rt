@@ -2,37 +2,37 @@
 // of each, one after the other. An input of more than 65536 bytes, or one that is cut short, ends the series.
 #![tactic(auto)]
 
+ghost use Rattle.std.specs.Prelude.{◌≤◌, length, IfOk, IfSome};
+
 use console::Input;
 use std::io;
 
-// One input. Answers whether to go on.
-fn next<R: io::Read, W: io::Write>(from: &mut R, to: &mut W) -> io::Result<bool> {
-    let mut head = [0u8; 4];
-    if intake::read_full(from, &mut head)? < 4 {
-        return Ok(false);
+// How many bytes the next input has, which are read; none where the series ends.
+fn next<R: io::Read>(from: &mut R, input: &mut [u8]) -> io::Result<Option<usize>>
+    ensures { IfOk result (λ next. IfSome next (λ n. n ≤ length input.new)) }
+{
+    let mut head = [0; 4];
+    if intake::read_full(from, &mut head)? < head.len() {
+        return Ok(None);
     }
-    let n = number::word(head[0], head[1], head[2], head[3]) as usize;
-    if 65536 < n {
-        return Ok(false);
+    let n = u32::from_be_bytes(head) as usize;
+    if input.len() < n || intake::read_full(from, &mut input[..n])? < n {
+        return Ok(None);
     }
-    let mut input = [0u8; 65536];
-    if intake::read_full(from, &mut input[..n])? < n {
-        return Ok(false);
-    }
-    let mut text = Input::text();
-    let r = console::sheetrun(&input[..n], &mut text);
-    to.write_all(&text[..r])?;
-    Ok(true)
+    Ok(Some(n))
 }
 
 // A proved loop has to end: this one has so many turns that no input uses them up.
 fn main(rt: HostRuntime) -> io::Result<()> {
     let mut from = rt.stdin();
-    let mut to = rt.stdout();
+    let mut input = [0; 65536];
     for _ in 0..u64::MAX {
-        if !next(&mut from, &mut to)? {
+        let Some(n) = next(&mut from, &mut input)? else {
             return Ok(());
-        }
+        };
+        let mut text = Input::text();
+        let r = console::sheetrun(&input[..n], &mut text);
+        rt.write_all(&text[..r])?;
     }
     Ok(())
 }

@@ -1,7 +1,7 @@
 // The words that more than one program prints: a type and a refusal.
 #![tactic(auto)]
 
-ghost use Rattle.std.specs.Prelude.{◌≤◌, length};
+ghost use Rattle.std.specs.Prelude.{◌≡◌, ◌≤◌, length};
 ghost use Rattle.text.specs.Text.{Appends};
 ghost use Rattle.sheet.specs.Ruling.{number_of, place_of};
 ghost use Rattle.words.specs.Words.{type_word, refused_line};
@@ -29,4 +29,14 @@ pub fn put_refusal<const N: usize>(out: &mut ArrayVec<u8, N>, r: Refusal)
     text::put(out, b" ");
     text::put_decimal(out, r.place() as u64);
     text::put(out, b"\n");
+}
+
+// All that is printed of a refusal.
+#[tactic(auto, using(text::proofs::TextLaws::append_first))]
+pub fn refusal<const N: usize>(r: Refusal) -> ArrayVec<u8, N>
+    ensures { 33 ≤ N → result.items ≡ refused_line (number_of r) (place_of r) }
+{
+    let mut text = ArrayVec::new();
+    put_refusal(&mut text, r);
+    text
 }
