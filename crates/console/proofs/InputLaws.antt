@@ -8,11 +8,12 @@ use native.Mathlib.Omega.{arith}
 use lib.IntN.{ℤ}
 use lib.ListN.{length}
 use borrow.Author.Tests.{lt-ltb, le-ltb, not-false, eqb-true}
-use Rattle.sheet.specs.Ruling.{Ruling, passed, refused, rule, ◌then◌, turned}
+use Rattle.sheet.specs.Ruling.{Ruling, passed, refused, rule, ◌then◌, accepted, turned}
 use Rattle.sheet.specs.Bytes.{columns}
+use Rattle.sheet.specs.declared.Sheet.{Sheet}
 use Rattle.sheet.proofs.RulingLaws.{then_passed}
-use Rattle.rules.specs.Check.{rules, check, Sound}
-use Rattle.rules.proofs.CheckLaws.{rules_exactly, check-turned}
+use Rattle.rules.specs.Check.{check, Sound}
+use Rattle.rules.proofs.CheckLaws.{rules_exactly, check_exactly, check-turned}
 use Rattle.engine.specs.Rows.{row_rule, row_at}
 use Rattle.engine.specs.Operations.{max_rows}
 use Rattle.engine.proofs.Demands.{meaning}
@@ -65,9 +66,9 @@ module _ (input : List ℕ) where
     unfolding input_rules rule ◌then◌
     input_refused number place q = rw (le-ltb max_input (length input) l, ← e, check-turned s number place q)
 
-    pub input_rest : {after : List ℕ} → after ≡ rest input → rules s ≡ passed → rest_rules s after ≡ input_rules input
+    pub input_rest : {after : List ℕ} {z : Sheet} → after ≡ rest input → accepted z ≡ check s → rest_rules s after ≡ input_rules input
     unfolding input_rules rule ◌then◌
-    input_rest q p = rw (le-ltb max_input (length input) l, ← e, ← q, p)
+    input_rest {z = z} q k = rw (le-ltb max_input (length input) l, ← e, ← q, (rules_exactly s).1 ((check_exactly s z).0 (sym k)).0)
 
 -- ---- one text
 

@@ -1,12 +1,12 @@
 -- Laws of the ticks that are printed, of what Run tells of the rows, and of the text that they make.
 use Prim.Native.Nat.{ℕ, suc, ◌+◌, ◌*◌, ◌≤◌, ◌<◌}
 use mathlib.Core.Path.{◌≡◌, refl, ap, sym, ◌∙◌}
-use mathlib.Core.List.{List, [], ◌++◌}
+use mathlib.Core.List.{List, []}
 use native.Mathlib.Numerals.{add-one}
 use native.Mathlib.Omega.{arith}
 use Rattle.std.proofs.Common.{Result, Ok, Err}
 use lib.IntN.{ℤ}
-use lib.ListN.{length, drop, length-drop, length-append}
+use lib.ListN.{length, take, drop, length-drop, length-append}
 use lib.Seq.{length-take-le}
 use borrow.Author.Tests.{le-ltb, eq-eqb}
 use Rattle.finite.specs.Lists.{joined}
@@ -15,8 +15,6 @@ use Rattle.text.proofs.TextLaws.{append_first, append_then, append_next, append_
 use Rattle.sheet.specs.Ruling.{passed, refused, rule, ◌then◌, told, said, turned}
 use Rattle.sheet.specs.Bytes.{nodes, columns}
 use Rattle.sheet.specs.declared.Refusal.{Refusal}
-use Rattle.rules.specs.Check.{Sound}
-use Rattle.rules.proofs.CheckLaws.{rules_exactly}
 use Rattle.order.specs.Orders.{RightOrder}
 use Rattle.meaning.specs.Equations.{Means}
 use Rattle.meaning.specs.Cells.{start_cells}
@@ -31,7 +29,7 @@ use Rattle.console.specs.declared.Accepted.{Accepted}
 use Rattle.console.specs.Sheetrun.{ok_line, tick_line, tick_lines, PrintedBy, max_output}
 use Rattle.console.specs.Printing.{max_line, LinesPut, TicksPut}
 use Rattle.console.proofs.LineLaws.{ok_length}
-use Rattle.console.proofs.AcceptedLaws.{nodes_are, columns_are, slots_are, root_is}
+use Rattle.console.proofs.AcceptedLaws.{accepted, sound, nodes_are, columns_are, slots_are, root_is}
 
 -- ---- the ticks
 
@@ -86,23 +84,23 @@ module _ {s : List ℕ} {rows : List ℤ} {T : ℕ} (p : run_rules s rows T ≡ 
 
 -- ---- a run
 
--- of a sound sheet and whole rows, not too many, a run tries rule 13 alone
-pub run_rows : {s : List ℕ} → Sound s → (rows : List ℤ) (T : ℕ) → length rows ≡ T * columns s → T ≤ max_rows → run_rules s rows T ≡ row_rule s rows
+-- of an accepted sheet and whole rows, not too many, a run tries rule 13 alone
+pub run_rows : (a : Accepted) (rows : List ℤ) (T : ℕ) → (length rows ≡ T * columns a.s.now) × (T ≤ max_rows) → run_rules a.s.now rows T ≡ row_rule a.s.now rows
 unfolding run_rules run_tests rule ◌then◌
-run_rows {s} z rows T whole few = rw ((rules_exactly s).1 z, eq-eqb (length rows) (T * columns s) whole, le-ltb max_rows T few)
+run_rows a rows T h = rw (accepted a, eq-eqb (length rows) (T * columns a.s.now) h.0, le-ltb max_rows T h.1)
 
 -- what an answer's refusal is told
 turned_told : {A : Type 0} (r : Result A Refusal) (number place : ℕ) → said r ≡ turned number place → told r ≡ refused number place
 turned_told (Ok a) number place e = let z : ◌≡◌ {A = ℕ} 0 1 = cc in absurd (omega arith)
 turned_told (Err r) number place e = cc
 
--- and Run's answer tells whether it passes
-pub run_told : {s : List ℕ} → Sound s → {rows old : List ℤ} {r : Result ℕ Refusal} {new : List ℤ} → Run s rows old r new → (T : ℕ) → length old ≡ T →
-    length rows ≡ T * columns s → T ≤ max_rows → told r ≡ row_rule s rows
-run_told {s} z {rows} {old} {r} k T n whole few =
-    let e : run_rules s rows (length old) ≡ row_rule s rows = rw n (run_rows z rows T whole few) in
-    by-ruling (run_rules s rows (length old))
-    (λ p. let (X, m, one) = meaning z (row_at s rows) in ap told (run_values k p X m).0 ∙ sym p ∙ e)
+-- Run's answer, of whole rows, not too many, tells whether rule 13 passes
+pub run_told : (a : Accepted) {rows new : List ℤ} {r : Result ℕ Refusal} (T : ℕ) (xs : List ℤ) → Run a.s.now rows (take T xs) r new → T ≤ length xs →
+    (length rows ≡ T * columns a.s.now) × (T ≤ max_rows) → told r ≡ row_rule a.s.now rows
+run_told a {rows} {r = r} T xs k l h =
+    let e : run_rules a.s.now rows (length (take T xs)) ≡ row_rule a.s.now rows = rw (length-take-le T xs l) (run_rows a rows T h) in
+    by-ruling (run_rules a.s.now rows (length (take T xs)))
+    (λ p. let (X, m, one) = meaning (sound a) (row_at a.s.now rows) in ap told (run_values k p X m).0 ∙ sym p ∙ e)
     (λ number place q. turned_told r number place (refused_run k number place q).0 ∙ sym q ∙ e)
 
 -- ---- all of the text

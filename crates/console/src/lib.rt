@@ -58,7 +58,6 @@ type Text = ArrayVec<u8, { Input::TEXT }>;
 
 // The lines.
 
-#[tactic(auto, using(text::proofs::TextLaws::append_then), unfolding(crate::specs::Sheetrun::ok_line))]
 pub fn put_ok<const N: usize>(out: &mut ArrayVec<u8, N>, z: Sheet)
     ensures { Appends N (printed.ok_line z.nodes z.columns z.slots z.root) out.old.items out.new.items }
 {
@@ -100,7 +99,7 @@ pub fn put_lowest<const N: usize>(out: &mut ArrayVec<u8, N>, lowest: Option<(Nod
     }
 }
 
-#[tactic(auto, using(text::proofs::TextLaws::append_then), unfolding(crate::specs::Sheetrun::tick_line))]
+#[tactic(auto, using(text::proofs::TextLaws::append_then, crate::proofs::LineLaws::tick_line_length), unfolding(crate::specs::Sheetrun::tick_line))]
 fn put_tick<const N: usize>(
     out: &mut ArrayVec<u8, N>,
     t: usize,
@@ -244,6 +243,7 @@ impl<'a> Accepted<'a> {
     }
 
     // Of the bytes after the sheet.
+    #[tactic(auto, using(crate::proofs::InputLaws::rest_broken, crate::proofs::InputLaws::rest_many, crate::proofs::InputLaws::rest_rows))]
     fn rest_text(self, rest: &[u8]) -> Result<Text, Refusal>
         ensures rules { told result ≡ printed.rest_rules self.entry.s.now rest.now }
         ensures text { IfOk result (λ text. printed.PrintedBy passed self.entry.s.now (printed.ints rest.now) (printed.ticks_by (bytes.columns self.entry.s.now) (length rest.now)) text.items) }
@@ -261,6 +261,7 @@ impl<'a> Accepted<'a> {
 }
 
 // All that is printed of an input that no rule refuses.
+#[tactic(auto, using(crate::proofs::InputLaws::input_over, crate::proofs::InputLaws::input_refused, crate::proofs::InputLaws::input_rest))]
 fn accepted_text(input: &[u8]) -> Result<Text, Refusal>
     ensures rules { told result ≡ printed.input_rules input.now }
     ensures text { IfOk result (λ text. printed.PrintedBy passed (printed.sheet_in input.now) (printed.rows_in input.now) (printed.ticks input.now) text.items) }

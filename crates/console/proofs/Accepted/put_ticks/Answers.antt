@@ -3,8 +3,8 @@ use Rattle.std.proofs.Common.{◌≡◌, ◌+◌, ◌*◌, ◌≤◌, ◌∙◌,
 use Rattle.number.proofs.Bridge.{back}
 use Rattle.engine.proofs.RuleLaws.{run_exactly}
 use Rattle.engine.proofs.RunLaws.{row_end, row_is}
-use Rattle.engine.proofs.Demands.{house_given, start_given}
-use Rattle.console.proofs.AcceptedLaws.{sound, nodes_are, columns_are, slots_are, length_part}
+use Rattle.engine.proofs.Demands.{start_given}
+use Rattle.console.proofs.AcceptedLaws.{sound, nodes_are, columns_are, slots_are, length_part, right_order}
 use Rattle.console.proofs.TickLaws.{ticks_none, tick_answers, ticks_more}
 use Rattle.console.proofs.Accepted.put_ticks.Goals as goal
 
@@ -27,18 +27,16 @@ pub returns-in_default : goal.returns-in_default
 returns-in_default c =
     let a = c.args.self in
     let l = c.loop-t in
-    let house = house_given c.house_order.ensures (sound a) (length_part _ _ _ a.few_nodes c.fresh-order.ensures ∙ nodes_are a) in
-    let (x, e) = tick_answers c.requires l.invariant.1 (omega arith) (row_is _ _ l.t _ (columns_are a)) house.2 c.tick.ensures in
+    let (x, e) = tick_answers c.requires l.invariant.1 (omega arith) (row_is _ _ l.t _ (columns_are a)) (right_order a _ c.fresh-order.ensures c.house_order.ensures) c.tick.ensures in
     absurd (c.in_default.not-Ok x e)
 
 pub loop-t-preserved : goal.loop-t-preserved
 loop-t-preserved c =
     let a = c.args.self in
     let l = c.loop-t in
-    let house = house_given c.house_order.ensures (sound a) (length_part _ _ _ a.few_nodes c.fresh-order.ensures ∙ nodes_are a) in
     let f : SFits w32 c.in-Ok.answer.root = search rules in (
       l.invariant.0,
-      ticks_more c.requires l.invariant.1 (omega arith) (row_is _ _ l.t _ (columns_are a)) house.2 c.tick.ensures c.in-Ok.is
+      ticks_more c.requires l.invariant.1 (omega arith) (row_is _ _ l.t _ (columns_are a)) (right_order a _ c.fresh-order.ensures c.house_order.ensures) c.tick.ensures c.in-Ok.is
           (rw (back f) at c.put_tick.ensures.text) (rw (back f) at c.put_tick.ensures.short),
     )
 

@@ -2,15 +2,8 @@
 use Rattle.std.proofs.Common.{ℕ, length, ap, ◌∙◌}
 use Rattle.console.specs.Sheetrun.{ticks_by}
 use Rattle.console.proofs.AcceptedLaws.{columns_are}
-use Rattle.console.proofs.InputLaws.{rest_broken, rest_many, rest_rows, rest_whole, rest_fits}
+use Rattle.console.proofs.InputLaws.{rest_whole, rest_fits}
 use Rattle.console.proofs.Accepted.rest_text.Goals as goal
-
-pub returns-then-broken_rows-clause-rules : goal.returns-then-broken_rows-clause-rules
-returns-then-broken_rows-clause-rules c = rest_broken c.args.self _ c.broken_rows.ensures c.if-broken_rows.true
-
-pub returns-then-ticks-gt-ROWS-clause-rules : goal.returns-then-ticks-gt-ROWS-clause-rules
-returns-then-ticks-gt-ROWS-clause-rules c =
-    rest_many c.args.self _ c.broken_rows.ensures c.if-broken_rows.false c.ticks_in-ticks.ensures c.if-ticks-gt-ROWS.true
 
 pub ints_text-requires : goal.ints_text-requires
 ints_text-requires c =
@@ -18,10 +11,6 @@ ints_text-requires c =
     let h = c.broken_rows.ensures in
     let l = c.if-ticks-gt-ROWS.false in
     (rest_whole a _ h c.if-broken_rows.false c.ticks_in-ticks.ensures, l, rest_fits a _ h c.if-broken_rows.false c.ticks_in-ticks.ensures l)
-
-pub returns-clause-rules : goal.returns-clause-rules
-returns-clause-rules c =
-    c.ints_text.ensures.rules ∙ rest_rows c.args.self _ c.broken_rows.ensures c.if-broken_rows.false c.ticks_in-ticks.ensures c.if-ticks-gt-ROWS.false
 
 pub returns-clause-text : goal.returns-clause-text
 returns-clause-text c =
