@@ -126,8 +126,8 @@ fn cut(input: &[u8]) -> (&[u8], &[u8])
     ensures sheet { result.0.now ≡ printed.sheet_in input.now }
     ensures rest { result.1.now ≡ printed.rest input.now }
 {
-    let stated = usize::from(sheet::byte(input, 0)) * 256 + usize::from(sheet::byte(input, 1));
-    input.split_at(stated.min(input.len()))
+    let stated = u16::from_be_bytes([sheet::byte(input, 0), sheet::byte(input, 1)]);
+    input.split_at(usize::from(stated).min(input.len()))
 }
 
 fn broken_rows(columns: usize, bytes: usize) -> bool
@@ -150,12 +150,12 @@ fn int_at(bytes: &[u8], k: usize) -> i32
     ensures { result ≡ printed.int_at bytes.now k }
 {
     let at = 4 * k;
-    number::of_bits(number::word(
+    i32::from_be_bytes([
         sheet::byte(bytes, at),
         sheet::byte(bytes, at + 1),
         sheet::byte(bytes, at + 2),
         sheet::byte(bytes, at + 3),
-    ))
+    ])
 }
 
 fn read_ints(bytes: &[u8], ints: &mut [i32])
@@ -208,7 +208,7 @@ impl<'a> Accepted<'a> {
         }
     }
 
-    // Of rows that a run accepts: the first line, and the ticks.
+    // The text of rows that a run accepts: the first line, and the ticks.
     fn run_text(self, rows: &[i32], ticks: usize) -> Text
         requires { run_rules self.s.now rows.now ticks ≡ passed }
         ensures { printed.PrintedBy passed self.entry.s.now rows.now ticks result.items }
@@ -219,7 +219,7 @@ impl<'a> Accepted<'a> {
         text
     }
 
-    // Of whole rows, not too many: rule 13 is left.
+    // The text of whole rows, not too many, or the refusal: rule 13 is left.
     fn rows_text(self, rows: &[i32], ticks: usize) -> Result<Text, Refusal>
         requires { (length rows.now ≡ ticks * bytes.columns self.s.now) × (ticks ≤ max_rows) }
         ensures rules { told result ≡ row_rule self.entry.s.now rows.now }
@@ -230,7 +230,7 @@ impl<'a> Accepted<'a> {
         Ok(self.run_text(rows, ticks))
     }
 
-    // Of the bytes of whole rows, not too many.
+    // The same of the bytes of the rows.
     fn ints_text(self, rest: &[u8], ticks: usize) -> Result<Text, Refusal>
         requires { (length rest.now / 4 ≡ ticks * bytes.columns self.s.now) × (ticks ≤ max_rows) × (length rest.now / 4 ≤ max_ints) }
         ensures rules { told result ≡ row_rule self.entry.s.now (printed.ints rest.now) }
@@ -242,7 +242,7 @@ impl<'a> Accepted<'a> {
         self.rows_text(&ints[..n], ticks)
     }
 
-    // Of the bytes after the sheet.
+    // The text of the bytes after the sheet, or the refusal.
     #[tactic(auto, using(crate::proofs::InputLaws::rest_broken, crate::proofs::InputLaws::rest_many, crate::proofs::InputLaws::rest_rows))]
     fn rest_text(self, rest: &[u8]) -> Result<Text, Refusal>
         ensures rules { told result ≡ printed.rest_rules self.entry.s.now rest.now }
@@ -260,7 +260,7 @@ impl<'a> Accepted<'a> {
     }
 }
 
-// All that is printed of an input that no rule refuses.
+// All that is printed of an input that no rule refuses, or the refusal.
 #[tactic(auto, using(crate::proofs::InputLaws::input_over, crate::proofs::InputLaws::input_refused, crate::proofs::InputLaws::input_rest))]
 fn accepted_text(input: &[u8]) -> Result<Text, Refusal>
     ensures rules { told result ≡ printed.input_rules input.now }
