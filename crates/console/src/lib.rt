@@ -99,7 +99,7 @@ pub fn put_lowest<const N: usize>(out: &mut ArrayVec<u8, N>, lowest: Option<(Nod
     }
 }
 
-#[tactic(auto, using(text::proofs::TextLaws::append_then, crate::proofs::LineLaws::tick_line_length), unfolding(crate::specs::Sheetrun::tick_line))]
+#[tactic(auto, using(crate::proofs::LineLaws::tick_line_length))]
 fn put_tick<const N: usize>(
     out: &mut ArrayVec<u8, N>,
     t: usize,
