@@ -275,19 +275,10 @@ fn accepted_text(input: &[u8]) -> Result<Text, Refusal>
     accepted.rest_text(rest)
 }
 
-// All that is printed of one that is refused.
-fn refused_text(r: Refusal) -> Text
-    ensures { result.items ≡ refused_line (number_of r) (place_of r) }
-{
-    let mut text = ArrayVec::new();
-    words::put_refusal(&mut text, r);
-    text
-}
-
 // All that sheetrun prints of an input, at the start of `out`; what is returned is its length.
 pub fn sheetrun(input: &[u8], out: &mut [u8]) -> usize
     ensures { Prints printed.max_output (printed.Printed input.now) out.old out.new result }
 {
-    let text = accepted_text(input).unwrap_or_else(refused_text);
+    let text = accepted_text(input).unwrap_or_else(words::refusal);
     text::copy_out(text.as_slice(), out)
 }
