@@ -144,7 +144,7 @@ fn constant_record(kind: u8, word: &[u8]) -> [u8; 6]
     if is_number(word) {
         return record(kind, 1, bits_of(word));
     }
-    record(kind, 0, (word == b"true".as_slice()) as u32)
+    record(kind, 0, u32::from(word == b"true".as_slice()))
 }
 
 #[tactic(auto, unfolding(listing::specs::Telling::name_record))]
@@ -221,12 +221,9 @@ fn headed(types: &[u8], records: &[u8]) -> ArrayVec<u8, SHEET>
     requires { (length types.now ≤ max_columns) × (length records.now ≤ 6 * max_nodes) }
     ensures { result.items ≡ telling.headed types.now records.now }
 {
-    let n = 4 + types.len() + records.len();
+    let [high, low] = ((4 + types.len() + records.len()) as u16).to_be_bytes();
     let mut s = ArrayVec::new();
-    text::put(
-        &mut s,
-        &[(n / 256) as u8, (n % 256) as u8, 1, types.len() as u8],
-    );
+    text::put(&mut s, &[high, low, 1, types.len() as u8]);
     text::put(&mut s, types);
     text::put(&mut s, records);
     s

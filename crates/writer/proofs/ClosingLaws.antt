@@ -11,7 +11,7 @@ use Rattle.finite.proofs.Tests.{and_both, and_not_l, and_not_r}
 use Rattle.finite.proofs.CountLaws.{count_none, count_le, count_step_yes, count_step_no}
 use Rattle.finite.proofs.ListLaws.{stored}
 use Rattle.sheet.specs.Ceilings.{max_nodes}
-use Rattle.sheet.specs.Bytes.{nodes, kind_at, end_of, Ends}
+use Rattle.sheet.specs.Bytes.{nodes, kind_at, end_of}
 use Rattle.sheet.specs.Form.{Formed}
 use Rattle.sheet.proofs.SheetLaws.{end_after, end-within}
 use Rattle.listing.specs.Listing.{opens, closes, closings, Closings}
@@ -44,32 +44,31 @@ module _ {s : List ℕ} {a : ℕ} {table : List ℕ} (old : Counted s a table) w
         counts = λ i l. old.counts i l ∙ sym (count_step_no (closes s i) a (and_not_l (opens (kind_at s a)) _ e));
       }
 
-  -- the table of ends says where node a's expression ends
-  module _ (ends : List ℕ) (f : Formed s) (e : Ends s ends) (h : a < nodes s) where
-    pub past_some : 0 < get_or ends a 0
-    past_some = omega (arith, e a h, end_after s a h)
+  -- node a's expression ends where `past` says
+  module _ {past : ℕ} (f : Formed s) (h : a < nodes s) (p : past ≡ end_of s a) where
+    pub past_some : 0 < past
+    past_some = omega (arith, p, end_after s a h)
 
-    last_node : get_or ends a 0 - 1 < nodes s
-    last_node = omega (arith, e a h, end-within f a h, past_some)
+    last_node : past - 1 < nodes s
+    last_node = omega (arith, p, end-within f a h, past_some)
 
-    pub past_within : get_or ends a 0 - 1 < max_nodes
+    pub past_within : past - 1 < max_nodes
     past_within = omega (arith, last_node, f.few)
 
-    pub past_few : get_or table (get_or ends a 0 - 1) 0 < 65535
-    past_few = let last = get_or ends a 0 - 1 in omega (arith, old.counts last last_node, count_le (closes s last) a, f.few)
+    pub past_few : get_or table (past - 1) 0 < 65535
+    past_few = omega (arith, old.counts (past - 1) last_node, count_le (closes s (past - 1)) a, f.few)
 
-    pub counted_yes : opens (kind_at s a) ≡ true → Counted s (a + 1) (set table (get_or ends a 0 - 1) (get_or table (get_or ends a 0 - 1) 0 + 1))
+    pub counted_yes : opens (kind_at s a) ≡ true → Counted s (a + 1) (set table (past - 1) (get_or table (past - 1) 0 + 1))
     unfolding closes
     counted_yes o =
-        let last = get_or ends a 0 - 1 in
-        let here : end_of s a ≡ last + 1 = omega (arith, e a h, past_some) in
+        let last : end_of s a ≡ past - 1 + 1 = omega (arith, p, past_some) in
         record {
           within = omega arith;
           room = simp length-set old.room;
           counts = λ i l.
-              stored (λ j. count (closes s j) (a + 1)) 0 table last _ (omega (arith, past_within, old.room))
-              (ap (λ (n : ℕ). n + 1) (old.counts last last_node)
-              ∙ sym (count_step_yes (closes s last) a (and_both (opens (kind_at s a)) _ o (eq-eqb _ _ here))))
+              stored (λ j. count (closes s j) (a + 1)) 0 table (past - 1) _ (omega (arith, past_within, old.room))
+              (ap (λ (n : ℕ). n + 1) (old.counts (past - 1) last_node)
+              ∙ sym (count_step_yes (closes s (past - 1)) a (and_both (opens (kind_at s a)) _ o (eq-eqb _ _ last))))
               i
               (λ n. old.counts i l
               ∙ sym (count_step_no (closes s i) a (and_not_r (opens (kind_at s a)) _ (ne_eqb (end_of s a) (i + 1) (λ q. n (omega arith))))));

@@ -96,7 +96,8 @@ fn closings(s: &[u8], ends: &[u16; Sheet::NODES]) -> [u16; Sheet::NODES]
     let mut table = zeros();
     for a in 0..sheet::nodes(s) {
         if opens(sheet::kind_at(s, Node(a as u16))) {
-            table[ends[a] as usize - 1] += 1;
+            let last = usize::from(ends[a]) - 1;
+            table[last] += 1;
         }
     }
     table

@@ -7,24 +7,33 @@ use Rattle.writer.proofs.closings.Goals.{then-opens, else-opens}
 pub loop-a-init : goal.loop-a-init
 loop-a-init c = rw c.zeros-table.ensures (counted_none c.requires.formed)
 
-pub overflow_sub-table : goal.overflow_sub-table
-overflow_sub-table c = past_some c.loop-a.invariant _ c.requires.formed c.requires.ends (omega arith)
+pub overflow_sub-last : goal.overflow_sub-last
+overflow_sub-last c =
+    let past = c.from-last.ensures ∙ c.requires.ends c.loop-a.a (omega arith) in
+    past_some c.loop-a.invariant c.requires.formed (omega arith) past
 
-pub bounds-table-ends : goal.bounds-table-ends
-bounds-table-ends c = past_within c.loop-a.invariant _ c.requires.formed c.requires.ends (omega arith)
+pub bounds-table-last : goal.bounds-table-last
+bounds-table-last c =
+    let past = c.from-last.ensures ∙ c.requires.ends c.loop-a.a (omega arith) in
+    past_within c.loop-a.invariant c.requires.formed (omega arith) past
 
 pub overflow_add-table : goal.overflow_add-table
-overflow_add-table c = omega (arith, past_few c.loop-a.invariant _ c.requires.formed c.requires.ends (omega arith))
+overflow_add-table c =
+    let past = c.from-last.ensures ∙ c.requires.ends c.loop-a.a (omega arith) in
+    omega (arith, past_few c.loop-a.invariant c.requires.formed (omega arith) past)
 
-pub bounds-table-ends-then-opens : goal.bounds-table-ends-then-opens
-bounds-table-ends-then-opens c = past_within c.loop-a.invariant _ c.requires.formed c.requires.ends (omega arith)
+pub bounds-table-last-then-opens : goal.bounds-table-last-then-opens
+bounds-table-last-then-opens c =
+    let past = c.from-last.ensures ∙ c.requires.ends c.loop-a.a (omega arith) in
+    past_within c.loop-a.invariant c.requires.formed (omega arith) past
 
 pub loop-a-preserved : goal.loop-a-preserved
 loop-a-preserved c =
     let test = rw c.kind_at.ensures at (sym c.opens.ensures) in
     elim c.if-opens.branch [
       | then-opens w ↦
-          rw w.table-is (counted_yes c.loop-a.invariant _ c.requires.formed c.requires.ends (omega arith) (test ∙ w.if-opens.true))
+          let past = w.from-last.ensures ∙ c.requires.ends c.loop-a.a (omega arith) in
+          rw w.table-is (counted_yes c.loop-a.invariant c.requires.formed (omega arith) past (test ∙ w.if-opens.true))
       | else-opens w ↦ rw w.table-is (counted_no c.loop-a.invariant (omega arith) (test ∙ w.if-opens.false))
     ]
 
