@@ -2,8 +2,7 @@
 // believed only where the text is that sheet's listing.
 #![tactic(auto)]
 
-ghost use Rattle.std.specs.Prelude.{◌≡◌, ◌-◌, ◌*◌, ◌<◌, ◌≤◌, true, false, cond, not, [], length, drop, Option, Some, None, MatchOption, Result, IfOk};
-ghost use Rattle.std.specs.List.{position_or_len};
+ghost use Rattle.std.specs.Prelude.{◌≡◌, ◌*◌, ◌<◌, ◌≤◌, false, cond, [], length, drop, Some, None, MatchOption, IfOk};
 ghost use Rattle.text.specs.Text.{digits};
 ghost use Rattle.sheet.specs.Ceilings.{max_columns, max_nodes};
 ghost use Rattle.sheet.specs.Ruling.{told};
@@ -73,15 +72,13 @@ fn bits_of(word: &[u8]) -> u32
 }
 
 // The number after a letter, if that is what the word is.
-#[tactic(auto, unfolding(listing::specs::Telling::numbered))]
+#[tactic(auto, unfolding(listing::specs::Telling::numbered, listing::specs::Telling::is_number))]
 fn number_after(letter: u8, word: &[u8]) -> Option<u32>
     requires { 0 < letter }
     ensures { result ≡ cond (telling.numbered letter word.now) (Some (digits (drop 1 word.now))) None }
 {
     match word {
-        [first, number @ ..] if *first == letter && sheet::byte(word, 1) < 58 => Some(text::digits(
-            number,
-        )),
+        [first, rest @ ..] if *first == letter && is_number(rest) => Some(text::digits(rest)),
         _ => None,
     }
 }

@@ -1,7 +1,7 @@
 // The listing's writer: from a sheet's bytes to its text in a lent room.
 #![tactic(auto)]
 
-ghost use Rattle.std.specs.Prelude.{◌≡◌, ◌++◌, length, replicate, Result, OnOk, IfOk};
+ghost use Rattle.std.specs.Prelude.{◌≡◌, ◌++◌, length, replicate, IfOk};
 ghost use Rattle.finite.specs.Lists.{joined};
 ghost use Rattle.text.specs.Text.{decimal, Appends};
 ghost use Rattle.sheet.specs.Ceilings.{max_nodes};
