@@ -1,9 +1,9 @@
 -- What is known of an accepted sheet: it is sound, and Check's answer is its own.
-use Rattle.std.proofs.Common.{◌≡◌, ℕ, ◌≤◌, true, false, List, Result, length, take, refl, ap, ◌∙◌, arith}
-use Rattle.std.proofs.lemmas.List.{length-take-le}
-use Rattle.finite.proofs.Tests.{not-both}
+use Rattle.std.proofs.Common.{◌≡◌, ℕ, List, Result, length, take, ap, ◌∙◌}
+use Rattle.finite.proofs.ListLaws.{length_part}
+use Rattle.sheet.proofs.RulingLaws.{passes_is}
 use Rattle.sheet.specs.Ceilings.{max_nodes}
-use Rattle.sheet.specs.Ruling.{Ruling, passed, refused, passes}
+use Rattle.sheet.specs.Ruling.{passed}
 use Rattle.sheet.specs.Bytes.{nodes, columns}
 use Rattle.sheet.specs.declared.Refusal.{Refusal}
 use Rattle.sheet.specs.declared.Sheet.{Sheet}
@@ -15,14 +15,9 @@ use Rattle.order.specs.Orders.{RightOrder, HouseOrder}
 use Rattle.engine.proofs.Demands.{house_given}
 use Rattle.console.specs.declared.Accepted.{Accepted}
 
-passed_by : (r : Ruling) → passes r ≡ true → r ≡ passed
-unfolding passes
-passed_by passed p = refl
-passed_by (refused number place) p = absurd (not-both false p refl)
-
 module _ (a : Accepted) where
   pub accepted : rules a.s.now ≡ passed
-  accepted = passed_by (rules a.s.now) a.passes
+  accepted = (passes_is (rules a.s.now)).0 a.passes
 
   pub sound : Sound a.s.now
   sound = (rules_exactly a.s.now).0 accepted
@@ -44,8 +39,6 @@ module _ (a : Accepted) where
   root_is = ap (λ (x : Sheet). x.root) a.answered
 
 -- a part of a local array, from its start
-pub length_part : {A : Type 0} (xs : List A) (n max : ℕ) → n ≤ max → length xs ≡ max → length (take n xs) ≡ n
-length_part xs n max l e = length-take-le n xs (omega (arith, e))
 
 -- House order leaves a right order in one
 pub right_order : (a : Accepted) (order : List ℕ) {new : List ℕ} {r : Result (Unit {0}) Refusal} → length order ≡ max_nodes →

@@ -183,7 +183,7 @@ struct Accepted<'a> {
 
 impl<'a> Accepted<'a> {
     // The ticks, from a fresh start in the house order, a line each. Only what the public operations promise is used.
-    #[tactic(auto, using(crate::proofs::AcceptedLaws::length_part))]
+    #[tactic(auto, using(finite::proofs::ListLaws::length_part))]
     fn put_ticks(self, rows: &[i32], ticks: usize, out: &mut Text)
         requires { run_rules self.s.now rows.now ticks ≡ passed }
         ensures { (X : ℕ → ℕ → ℤ) → Means self.entry.s.now (row_at self.entry.s.now rows.now) X → LinesPut self.entry.s.now X ticks out.old.items out.new.items }

@@ -1,6 +1,6 @@
 -- Laws that several functions' proofs cite: the nodes that fail, and what needs of an accepted sheet are looked up by.
 use Prim.Native.Nat.{ℕ, ◌+◌, ◌≤◌, ◌<◌}
-use mathlib.Core.Path.{◌≡◌, refl}
+use mathlib.Core.Path.{◌≡◌}
 use mathlib.Core.Bool.{Bool, true, false, not}
 use mathlib.Core.List.{List}
 use native.Mathlib.Omega.{arith}
@@ -9,15 +9,14 @@ use lib.ListN.{length, get_or, set, take}
 use borrow.Author.Tests.{ltb-true, lt-ltb, le-ltb, not-false}
 use denote.Enum.Bare.{sameb}
 use Rattle.std.proofs.Common.{Some, None, zero-le}
-use Rattle.finite.proofs.Tests.{not-both}
 use Rattle.finite.proofs.LowestLaws.{lowest-is, lowest_none}
 use Rattle.table.specs.Equations.{at, work}
 use Rattle.table.proofs.TickLaws.{work-more}
 use Rattle.sheet.specs.Ceilings.{max_nodes}
-use Rattle.sheet.specs.Ruling.{Ruling, passed, refused, passes}
 use Rattle.sheet.specs.Bytes.{nodes, columns, kind_at, argument, arity, operand, operand_by}
 use Rattle.sheet.specs.Form.{known, bad_record}
 use Rattle.sheet.specs.declared.Kind.TheVariants.{Input}
+use Rattle.sheet.proofs.RulingLaws.{passes_is}
 use Rattle.sheet.proofs.SheetLaws.{operand_by_table}
 use Rattle.rules.specs.Check.{rules}
 use Rattle.rules.proofs.CheckLaws.{rules_exactly}
@@ -48,14 +47,9 @@ module _ (s : List ℕ) (values : List ℤ) (i : ℕ) where
   none_fails none l =
       rw (lowest_none (fails s values) 0 (nodes s) (λ j _ u. none j (omega arith)), le-ltb (0 + nodes s) (nodes s) (omega arith))
 
-passed_by : (r : Ruling) → passes r ≡ true → r ≡ passed
-unfolding passes
-passed_by passed p = refl
-passed_by (refused number place) p = absurd (not-both false p refl)
-
 -- what needs are looked up by
 pub given : (a : Accepted) → Given a.s.now a.tables.now.ends
-given a = record { sound = (rules_exactly a.s.now).0 (passed_by (rules a.s.now) a.accepted); ends = a.ended }
+given a = record { sound = (rules_exactly a.s.now).0 ((passes_is (rules a.s.now)).0 a.accepted); ends = a.ended }
 
 module _ (a : Accepted) where
   pub few : nodes a.s.now ≤ max_nodes

@@ -6,8 +6,7 @@ use mathlib.Core.List.{List}
 use native.Mathlib.Omega.{arith}
 use Rattle.std.proofs.Common.{Result, Ok, Err}
 use lib.IntN.{ℤ, pos}
-use lib.ListN.{length, take}
-use lib.Seq.{length-take-le}
+use lib.ListN.{length}
 use borrow.Author.Tests.{eq-eqb, ne_eqb}
 use Rattle.table.specs.Equations.{at}
 use Rattle.sheet.specs.Ceilings.{max_nodes, max_slots}
@@ -59,8 +58,6 @@ module _ (s : List ℕ) (z : Sheet) (e : accepted z ≡ check s) where
   few_slots = omega (arith, slots_by, sound_by.few)
 
 -- a part of a local array, from its start
-pub length_part : {A : Type 0} (xs : List A) (n max : ℕ) → n ≤ max → length xs ≡ max → length (take n xs) ≡ n
-length_part xs n max l e = length-take-le n xs (omega (arith, e))
 
 -- rules that follow those of the sheet
 module _ (s : List ℕ) (tests : Ruling) where

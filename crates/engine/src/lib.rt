@@ -342,7 +342,7 @@ fn faulty(t: ValueType, v: i32) -> bool
 }
 
 // Rule 13, over rows laid end to end.
-#[tactic(auto, unfolding(crate::specs::Rows::bad_entry))]
+#[tactic(auto, using(sheet::proofs::RulingLaws::each_passes), unfolding(crate::specs::Rows::row_rule, crate::specs::Rows::bad_entry))]
 fn test_rows(s: &[u8], rows: &[i32]) -> Result<(), Refusal>
     requires { columns s.now ≡ 0 → length rows.now ≡ 0 }
     ensures { told result ≡ faults.row_rule s.now rows.now }
@@ -463,7 +463,7 @@ pub fn tick(
 
 // RUN
 
-#[tactic(auto, using(crate::proofs::OperationLaws::few_nodes, crate::proofs::OperationLaws::few_slots, crate::proofs::OperationLaws::length_part, crate::proofs::OperationLaws::nodes_by, crate::proofs::OperationLaws::slots_by, crate::proofs::OperationLaws::run_refused, crate::proofs::OperationLaws::run_turned))]
+#[tactic(auto, using(crate::proofs::OperationLaws::few_nodes, crate::proofs::OperationLaws::few_slots, finite::proofs::ListLaws::length_part, crate::proofs::OperationLaws::nodes_by, crate::proofs::OperationLaws::slots_by, crate::proofs::OperationLaws::run_refused, crate::proofs::OperationLaws::run_turned))]
 pub fn run(s: &[u8], rows: &[i32], outputs: &mut [i32]) -> Result<usize, Refusal>
     ensures { operations.Run s.now rows.now outputs.old result outputs.new }
 {

@@ -288,6 +288,7 @@ impl<'a> Tree<'a> {
     }
 
     // A rule over all nodes, where `breaks` tests one.
+    #[tactic(auto, using(sheet::proofs::RulingLaws::each_passes))]
     fn ruled<F: Fn(Node) -> bool>(self, rule: Rule, breaks: F) -> Result<(), Refusal>
         requires callable { (i : _) → i.0 < bytes.nodes self.s.now → F.pre breaks i }
         requires tests { (i : _) (b : Bool) → i.0 < bytes.nodes self.s.now → F.post breaks i b → b ≡ check.breaks self.s.now rule i.0 }

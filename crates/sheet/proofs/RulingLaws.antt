@@ -11,7 +11,8 @@ use lib.Dec.{ltb}
 use borrow.Author.Tests.{ltb-false, lt-ltb, le-ltb}
 use Rattle.finite.specs.Lowest.{lowest}
 use Rattle.finite.proofs.LowestLaws as low
-use Rattle.sheet.specs.Ruling.{Ruling, passed, refused, rule, each, ◌then◌, accepted, turned, answer, lent_place, number_of, place_of, told, said}
+use Rattle.finite.proofs.Tests.{not-both}
+use Rattle.sheet.specs.Ruling.{Ruling, passed, refused, rule, each, ◌then◌, passes, accepted, turned, answer, lent_place, number_of, place_of, told, said}
 use Rattle.sheet.specs.declared.Node.{Node}
 use Rattle.sheet.specs.declared.Lent.{Lent}
 use Rattle.sheet.specs.declared.Lent.TheVariants.{Rows, Cells, Order as Orders, Values, Outputs, Room}
@@ -22,6 +23,11 @@ use Rattle.sheet.specs.declared.Refusal.TheVariants.{Length, Version, Columns, B
 
 not-passed {ℓ} : {X : Type ℓ} (number place : ℕ) → refused number place ≡ passed → X
 not-passed number place e = let z : ◌≡◌ {A = ℕ} 0 1 = cc in absurd (omega arith)
+
+pub passes_is : (r : Ruling) → (passes r ≡ true) ↔ (r ≡ passed)
+unfolding passes
+passes_is passed = (λ e. refl, λ e. refl)
+passes_is (refused number place) = (λ e. not-both false e refl, λ e. ap passes e)
 
 pub rule-passed : (broken : Bool) (number place : ℕ) → (rule broken number place ≡ passed) ↔ (broken ≡ false)
 unfolding rule
@@ -37,6 +43,10 @@ each-passed number breaks from count =
       λ e i l u. low.passed breaks from count i l (omega (arith, ltb-false at (from + count) (r.0 e))),
       λ none. r.1 (le-ltb at (from + count) (omega (arith, low.lowest_none breaks from count none))),
     )
+
+pub each_passes : (number : ℕ) (breaks : ℕ → Bool) (from count : ℕ) → ((i : ℕ) → from ≤ i → i < from + count → breaks i ≡ false)
+    → passed ≡ each number breaks from count
+each_passes number breaks from count none = sym ((each-passed number breaks from count).1 none)
 
 -- the lowest that breaks it is the place
 pub each_refused : (number : ℕ) (breaks : ℕ → Bool) (from count i : ℕ) → from ≤ i → i < from + count → breaks i ≡ true

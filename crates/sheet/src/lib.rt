@@ -342,6 +342,7 @@ fn length_and_version(s: &[u8]) -> Result<(), Refusal>
 }
 
 // No type byte is over 1.
+#[tactic(auto, using(crate::proofs::RulingLaws::each_passes))]
 fn type_bytes(s: &[u8]) -> Result<(), Refusal>
     ensures { told result ≡ each 3 (form.untyped s.now) 4 (bytes.columns s.now) }
 {
@@ -374,6 +375,7 @@ fn body(s: &[u8]) -> Result<(), Refusal>
 }
 
 // Rule 5.
+#[tactic(auto, using(crate::proofs::RulingLaws::each_passes), unfolding(crate::specs::Form::records))]
 fn records(s: &[u8]) -> Result<(), Refusal>
     requires { bytes.nodes s.now ≤ max_nodes }
     ensures { told result ≡ form.records s.now }

@@ -7,7 +7,7 @@ use Rattle.sheet.specs.Bytes.{nodes, kind_at, is_fby}
 use Rattle.sheet.specs.declared.ValueType.{ValueType}
 use Rattle.sheet.specs.declared.ValueType.TheVariants.{Int as int}
 use Rattle.sheet.specs.declared.Kind.TheVariants.{Fby}
-use Rattle.sheet.proofs.RulingLaws.{each-passed, each_refused}
+use Rattle.sheet.proofs.RulingLaws.{each_passes, each_refused}
 use Rattle.rules.specs.Scope.{fby_at}
 use Rattle.rules.specs.Types.{type_at}
 use Rattle.rules.specs.Slots.{slot, slots}
@@ -64,4 +64,4 @@ loop-i-preserved c =
 
 pub returns : goal.returns
 unfolding cell_rule slots slot
-returns c = sym ((each-passed _ _ _ _).1 (λ k _ l. c.loop-i.invariant.2 k (search rules)))
+returns c = each_passes _ _ _ _ (λ k _ l. c.loop-i.invariant.2 k (search rules))

@@ -1,7 +1,7 @@
 -- An entry is misplaced where it is not under N, was seen, or has a need that was not.
-use Rattle.std.proofs.Common.{true, false, sym, arith}
+use Rattle.std.proofs.Common.{true, false, arith}
 use Rattle.table.specs.Order.{ready}
-use Rattle.sheet.proofs.RulingLaws.{each-passed, each_refused}
+use Rattle.sheet.proofs.RulingLaws.{each_passes, each_refused}
 use Rattle.order.specs.Orders.{ordered}
 use Rattle.order.proofs.FunctionLaws.{met_is, bad_over, bad_ready, tried_more}
 use Rattle.order.proofs.test_order.Goals as goal
@@ -31,4 +31,4 @@ loop-p-preserved c g e =
 
 pub returns : goal.returns
 unfolding ordered
-returns c g e = sym ((each-passed 15 _ 0 _).1 (λ q _ l. (c.loop-p.invariant g e).none q (omega arith)))
+returns c g e = each_passes 15 _ 0 _ (λ q _ l. (c.loop-p.invariant g e).none q (omega arith))

@@ -4,7 +4,8 @@ use Rattle.number.proofs.Bridge.{back}
 use Rattle.engine.proofs.RuleLaws.{run_exactly}
 use Rattle.engine.proofs.RunLaws.{row_end, row_is}
 use Rattle.engine.proofs.Demands.{start_given}
-use Rattle.console.proofs.AcceptedLaws.{sound, nodes_are, columns_are, slots_are, length_part, right_order}
+use Rattle.finite.proofs.ListLaws.{length_part}
+use Rattle.console.proofs.AcceptedLaws.{sound, nodes_are, columns_are, slots_are, right_order}
 use Rattle.console.proofs.TickLaws.{ticks_none, tick_answers, ticks_more}
 use Rattle.console.proofs.Accepted.put_ticks.Goals as goal
 

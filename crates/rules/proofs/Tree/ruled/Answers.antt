@@ -2,13 +2,10 @@
 use Rattle.std.proofs.Common.{sym, ◌∙◌, arith}
 use mathlib.Core.Path.{ap₂}
 use Rattle.sheet.specs.Ruling.{refused}
-use Rattle.sheet.proofs.RulingLaws.{each-passed, each_refused}
+use Rattle.sheet.proofs.RulingLaws.{each_refused}
 use Rattle.rules.proofs.Tree.ruled.Goals as goal
 
 pub returns-then-breaks : goal.returns-then-breaks
 returns-then-breaks g c =
     let hit = sym (c.requires.tests _ _ (omega arith) c.breaks.ensures) ∙ c.if-breaks.true in
     ap₂ refused c.refusal.ensures.0 c.refusal.ensures.1 ∙ each_refused _ _ _ _ c.loop-i.i (omega arith) (omega arith) hit c.loop-i.invariant
-
-pub returns : goal.returns
-returns g c = sym ((each-passed _ _ _ _).1 (λ i l u. c.loop-i.invariant i l (omega arith)))
