@@ -1,7 +1,7 @@
 // A sheet's bytes: ceilings, the four counts, refusals, records, rules 1 to 6, and where each expression ends.
 #![tactic(auto)]
 
-ghost use Rattle.std.specs.Prelude.{◌≡◌, ◌∷◌, [], ◌<◌, ◌≤◌, length, get_or, set};
+ghost use Rattle.std.specs.Prelude.{◌≡◌, ◌∷◌, [], ◌<◌, ◌≤◌, ◌+◌, length, replicate, unwrap_or, IfSome};
 ghost use Rattle.sheet.specs.Ceilings.{ceilings, max_nodes};
 ghost use Rattle.sheet.specs.Ruling.{each, told, number_of, place_of};
 ghost use Rattle.sheet.specs.Prefix.{end};
@@ -39,7 +39,7 @@ pub struct Sheet {
     pub root: ValueType,
 }
 
-#[derive(Clone, Copy)]
+#[derive(Clone, Copy, Debug, PartialEq, Eq)]
 pub struct Ceilings {
     pub columns: usize,
     pub nodes: usize,
@@ -56,11 +56,11 @@ impl Sheet {
 
     pub const SLOTS: usize = 64;
 
-    // A table of nodes, to be filled.
+    // A table of nodes, to be filled. Written in place, it would stand whole in every goal.
     pub fn fresh() -> [u16; Sheet::NODES]
-        ensures { length result ≡ max_nodes }
+        ensures { result ≡ replicate max_nodes 0 }
     {
-        [0u16; Sheet::NODES]
+        [0; Sheet::NODES]
     }
 
     // The ceilings of the code are those of the definitions.
@@ -78,7 +78,7 @@ impl Sheet {
 
 // A record's kind with its code; Unknown where the table of kinds has no such kind, code or operator. It is a kind and no None, since the
 // definitions give every record's bytes a kind (arity, needs, value, ..), and every theorem goes by them.
-#[derive(Clone, Copy)]
+#[derive(Clone, Copy, Debug, PartialEq, Eq)]
 pub enum Kind {
     Const(ValueType),
     Input,
@@ -189,7 +189,8 @@ pub fn byte(s: &[u8], at: usize) -> u8
     s.get(at).copied().unwrap_or(0)
 }
 
-fn columns(s: &[u8]) -> usize
+// How many columns a sheet states.
+pub fn columns(s: &[u8]) -> usize
     ensures { (result ≡ bytes.columns s.now) × (result < 256) }
 {
     usize::from(byte(s, 3))
@@ -264,7 +265,8 @@ pub fn argument(s: &[u8], i: Node) -> u32
     )
 }
 
-// An argument as the number of a node or a column: where it is too large for one, the largest, which no sheet has.
+// An argument as the number of a node or a column: where it is too large for one, the largest, which no sheet has. It is a number and no
+// Option, since of an accepted sheet every such argument is one, and each caller but the scope rule would have to unwrap it.
 fn number_of(a: u32) -> u16
     ensures { a < 65536 → result ≡ a }
 {
@@ -332,7 +334,8 @@ fn bad_record(s: &[u8], i: Node) -> bool
 fn length_and_version(s: &[u8]) -> Result<(), Refusal>
     ensures { told result ≡ form.length_version s.now }
 {
-    if s.len() < 4 || usize::from(byte(s, 0)) * 256 + usize::from(byte(s, 1)) != s.len() {
+    let stated = u16::from_be_bytes([byte(s, 0), byte(s, 1)]);
+    if s.len() < 4 || usize::from(stated) != s.len() {
         return Err(Refusal::Length);
     }
     if byte(s, 2) != 1 {
@@ -391,19 +394,20 @@ fn records(s: &[u8]) -> Result<(), Refusal>
 // Rule 6.
 
 // One expression from its first node: the node, then its operands in full, left to right, read by the same function. Answers the
-// node just past it, or n + 1 where the records run out.
-fn expression(s: &[u8], n: u16, at: u16) -> u16
+// node just past it; None where the records run out.
+fn expression(s: &[u8], n: u16, at: u16) -> Option<u16>
     requires { n ≤ max_nodes }
-    ensures { result ≡ end (bytes.arity_at s.now) n at }
+    ensures end { unwrap_or result (n + 1) ≡ end (bytes.arity_at s.now) n at }
+    ensures within { IfSome result (λ k. k ≤ n) }
 {
     if n <= at {
-        return n + 1;
+        return None;
     }
     let mut next = at + 1;
     for _ in 0..arity(kind_at(s, Node(at))) {
-        next = expression(s, n, next);
+        next = expression(s, n, next)?;
     }
-    next
+    Some(next)
 }
 
 fn shape(s: &[u8]) -> Result<(), Refusal>
@@ -411,14 +415,11 @@ fn shape(s: &[u8]) -> Result<(), Refusal>
     ensures { told result ≡ form.shape s.now }
 {
     let n = nodes(s) as u16;
-    let k = expression(s, n, 0);
-    if k < n {
-        return Err(Refusal::Shape(Node(k)));
+    match expression(s, n, 0) {
+        None => Err(Refusal::Shape(Node(n))),
+        Some(k) if k < n => Err(Refusal::Shape(Node(k))),
+        Some(_) => Ok(()),
     }
-    if n < k {
-        return Err(Refusal::Shape(Node(n)));
-    }
-    Ok(())
 }
 
 // Rules 1 to 6.

@@ -19,10 +19,10 @@ pub returns-then-byte-ne1 : goal.returns-then-byte-ne1
 unfolding length_version rule ◌then◌
 returns-then-byte-ne1 c =
     let s = c.args.s.now in
-    simp (le-ltb _ _ c.if-s-lt4.false, eq-eqb (stated s) (length s) (omega arith), ← c.byte-2.ensures, ne_eqb _ _ c.if-byte-ne1.true)
+    simp (le-ltb _ _ c.if-s-lt4.false, eq-eqb (stated s) (length s) (omega arith), ← c.byte-3.ensures, ne_eqb _ _ c.if-byte-ne1.true)
 
 pub returns : goal.returns
 unfolding length_version rule ◌then◌
 returns c =
     let s = c.args.s.now in
-    simp (le-ltb _ _ c.if-s-lt4.false, eq-eqb (stated s) (length s) (omega arith), ← c.byte-2.ensures, eq-eqb _ _ c.if-byte-ne1.false)
+    simp (le-ltb _ _ c.if-s-lt4.false, eq-eqb (stated s) (length s) (omega arith), ← c.byte-3.ensures, eq-eqb _ _ c.if-byte-ne1.false)
