@@ -39,7 +39,7 @@ pub fn filter<R: io::Read, W: io::Write, F: FnOnce(&[u8], &mut [u8]) -> usize>(
 ) -> io::Result<()>
     requires callable { F.IsAlwaysCallable print }
     requires inside { (input : _) (text : _) (n : _) (after : _) → F.post print input text n after → n ≤ length after.now }
-    ensures written { OnOk result ((bytes : _) × (room : _) × (n : _) × (after : _) × Consumes (R.remaining from.old) (R.remaining from.new) bytes.now × (length bytes.now < length input.old → IsAtEnd (R.remaining from.new)) × F.post print bytes room n after × Appends (W.contents to.old) (W.contents to.new) (take n after.now)) }
+    ensures written { OnOk result ((bytes : _) × (room : _) × (n : _) × (after : _) × Consumes (R.remaining from.old) (R.remaining from.new) bytes.now × (length bytes.now < length input.old → IsAtEnd (R.remaining from.new)) × (room.now ≡ text.old) × F.post print bytes room n after × Appends (W.contents to.old) (W.contents to.new) (take n after.now)) }
 {
     let n = read_full(from, input)?;
     let r = print(&input[..n], text);

@@ -1,8 +1,10 @@
--- Laws of appending, and of numbers in decimal.
-use Rattle.std.proofs.Common.{◌≡◌, ℕ, zero, suc, ◌+◌, ◌*◌, ◌/◌, ◌%◌, ◌^◌, ◌≤◌, ◌<◌, cond, ltb, List, [], ◌∷◌, ◌++◌, length, get_or, drop, ℤ, pos, negsuc, refl, sym, ap, ◌∙◌, append-nil, append_assoc, pow-suc, add-one, arith, length-append, drop-cons, w32, SFits, ltb-true, ltb-false, lt-ltb, le-ltb}
+-- Laws of appending, of what then is printed, and of numbers in decimal.
+use Rattle.std.proofs.Common.{◌≡◌, ℕ, zero, suc, ◌+◌, ◌*◌, ◌/◌, ◌%◌, ◌^◌, ◌≤◌, ◌<◌, cond, ltb, List, [], ◌∷◌, ◌++◌, length, get_or, take, drop, ℤ, pos, negsuc, refl, sym, ap, ◌∙◌, append-nil, append_assoc, pow-suc, add-one, arith, length-append, length-drop, drop-cons, w32, SFits, ltb-true, ltb-false, lt-ltb, le-ltb}
+use lib.Seq.{take_at, length-take-le}
+use Rattle.std.proofs.Math.Seq.{take_all}
 use Rattle.finite.specs.Lists.{joined}
 use Rattle.finite.proofs.Tests.{by-test}
-use Rattle.text.specs.Text.{decimal_by, decimal, integer, digits_after, digits, Appends}
+use Rattle.text.specs.Text.{decimal_by, decimal, integer, digits_after, digits, Appends, Copied, Prints}
 
 -- ---- appending
 
@@ -33,6 +35,24 @@ append_next f n p q = rw (add-one n) (append_then p q)
 pub append_start : {room : ℕ} {a : List ℕ} (f : ℕ → List ℕ) → Appends room (joined f 0) a a
 unfolding joined
 append_start f = append_none _ _
+
+-- ---- what is printed
+
+-- the text is all that is printed, if there is room for it
+pub prints_copied : {text before after : List ℕ} {r : ℕ} (room : ℕ) (P : List ℕ → Type 0) → Copied text before after r →
+    (room ≤ length before → length text ≤ room × P text) → Prints room P before after r
+prints_copied {text} {before} {after} {r} room P k h =
+    let whole : length (take r text) ≡ r = length-take-le r text (omega (arith, k.count)) in
+    let size : length after ≡ length before = rw k.contents (simp length-append (omega (arith, k.count, whole, length-drop r before))) in
+    let inside : r ≤ length after = omega (arith, k.count, size) in
+    record {
+      same_length = size;
+      inside = inside;
+      counted = sym (length-take-le r after inside);
+      text = λ l.
+          let all : take r text ≡ text = take_all r text (omega (arith, k.count, (h l).0)) in
+          rw (k.contents, take_at (take r text) (drop r before) r whole, all) (h l).1;
+    }
 
 -- ---- numbers in decimal
 
