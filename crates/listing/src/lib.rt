@@ -3,7 +3,8 @@
 #![tactic(auto)]
 
 ghost use Rattle.std.specs.Prelude.{◌≡◌, length};
-ghost use Rattle.listing.specs.Listing.{operator_name, name};
+ghost use Rattle.sheet.specs.Ceilings.{max_sheet};
+ghost use Rattle.listing.specs.Listing.{operator_name, name, max_text};
 ghost use Rattle.listing.specs.Answers.{room_rule, Answers};
 
 use number::Operator;
@@ -14,6 +15,13 @@ pub const TEXT: usize = 5 + 5 * Sheet::COLUMNS + 18 * Sheet::NODES;
 
 // The longest sheet.
 pub const SHEET: usize = 4 + Sheet::COLUMNS + 6 * Sheet::NODES;
+
+// Both are those of the definitions.
+pub fn sizes() -> (usize, usize)
+    ensures { (result.0 ≡ max_text) × (result.1 ≡ max_sheet) }
+{
+    (TEXT, SHEET)
+}
 
 // The names.
 
