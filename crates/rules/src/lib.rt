@@ -1,7 +1,7 @@
 // Rules 7 to 11: depth, scope, types, guard and slots, each a test on nodes; and Check.
 #![tactic(auto)]
 
-ghost use Rattle.std.specs.Prelude.{◌≡◌, Bool, true, false, ◌<◌, ◌≤◌, length, replicate};
+ghost use Rattle.std.specs.Prelude.{◌≡◌, Bool, true, false, ◌<◌, ◌≤◌, length};
 ghost use Rattle.sheet.specs.Ceilings.{max_nodes};
 ghost use Rattle.sheet.specs.Ruling.{◌then◌, told, said, number_of, place_of, passed};
 ghost use Rattle.sheet.specs.Bytes as bytes;
@@ -432,7 +432,7 @@ pub struct Tables {
 impl Tables {
     // Tables to be filled.
     pub fn fresh() -> Tables
-        ensures { (result.ends ≡ replicate max_nodes 0) × (result.slots ≡ replicate max_nodes 0) }
+        ensures { (length result.ends ≡ max_nodes) × (length result.slots ≡ max_nodes) }
     {
         Tables {
             ends: Sheet::fresh(),

@@ -1,7 +1,7 @@
 // A sheet's bytes: ceilings, the four counts, refusals, records, rules 1 to 6, and where each expression ends.
 #![tactic(auto)]
 
-ghost use Rattle.std.specs.Prelude.{◌≡◌, ◌∷◌, [], ◌<◌, ◌≤◌, ◌+◌, length, replicate, unwrap_or, IfSome};
+ghost use Rattle.std.specs.Prelude.{◌≡◌, ◌∷◌, [], ◌<◌, ◌≤◌, ◌+◌, length, unwrap_or, IfSome};
 ghost use Rattle.sheet.specs.Ceilings.{ceilings, max_nodes};
 ghost use Rattle.sheet.specs.Ruling.{each, told, number_of, place_of};
 ghost use Rattle.sheet.specs.Prefix.{end};
@@ -58,7 +58,7 @@ impl Sheet {
 
     // A table of nodes, to be filled. Written in place, it would stand whole in every goal.
     pub fn fresh() -> [u16; Sheet::NODES]
-        ensures { result ≡ replicate max_nodes 0 }
+        ensures { length result ≡ max_nodes }
     {
         [0; Sheet::NODES]
     }
