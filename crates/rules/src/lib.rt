@@ -65,7 +65,7 @@ fn is_rec(k: Kind) -> bool
 fn counted(s: &[u8], delays_only: bool, i: Node) -> bool
     ensures { result ≡ scope.counted s.now delays_only i.0 }
 {
-    !delays_only | is_fby(sheet::kind_at(s, i))
+    !delays_only || is_fby(sheet::kind_at(s, i))
 }
 
 #[tactic(auto, unfolding(crate::specs::Types::operator_type))]
@@ -92,11 +92,11 @@ fn fits(o: Operator, a: ValueType, b: ValueType, c: ValueType) -> bool
     let int = ValueType::Int;
     match o {
         Operator::Not => a == bool,
-        Operator::And | Operator::Or | Operator::Xor => (a == bool) & (b == bool),
-        Operator::If => (a == bool) & (b == c),
+        Operator::And | Operator::Or | Operator::Xor => a == bool && b == bool,
+        Operator::If => a == bool && b == c,
         Operator::Eq => a == b,
         Operator::Neg => a == int,
-        _ => (a == int) & (b == int),
+        _ => a == int && b == int,
     }
 }
 
@@ -109,7 +109,7 @@ fn well_typed(k: Kind, a: ValueType, b: ValueType, c: ValueType) -> bool
         Kind::Op(o) => fits(o, a, b, c),
         Kind::Fby(t) | Kind::Rec(t) => a == t,
         Kind::Check => a == bool,
-        Kind::Contract => (a == bool) & (c == bool),
+        Kind::Contract => a == bool && c == bool,
         _ => true,
     }
 }
@@ -222,7 +222,7 @@ impl<'a> Tree<'a> {
         ensures { b.0 < bytes.nodes self.entry.s.now → k < bytes.arity_at self.entry.s.now b.0 → result ≡ bytes.lies self.entry.s.now b.0 k i.0 }
     {
         let first = self.operand(b, k);
-        (first.0 <= i.0) & (i.0 < self.end(first).0)
+        (first.0..self.end(first).0).contains(&i.0)
     }
 
     #[tactic(auto, unfolding(crate::specs::Scope::scoped, crate::specs::Scope::binds, sheet::specs::Bytes::arity))]
@@ -284,7 +284,7 @@ impl<'a> Tree<'a> {
         requires i_bound { i.0 < bytes.nodes self.s.now }
         ensures { result ≡ check.breaks self.entry.s.now Rule.Slots i.0 }
     {
-        is_fby(self.kind(i)) & (Sheet::SLOTS <= usize::from(table[usize::from(i)]))
+        is_fby(self.kind(i)) && Sheet::SLOTS <= usize::from(table[usize::from(i)])
     }
 
     // A rule over all nodes, where `breaks` tests one.
@@ -317,7 +317,7 @@ impl<'a> Tree<'a> {
     fn scope(self) -> Result<(), Refusal>
         ensures { told result ≡ check.ruled self.entry.s.now Rule.Scope }
     {
-        self.ruled(Rule::Scope, |i| is_var(self.kind(i)) & !self.scoped(i))
+        self.ruled(Rule::Scope, |i| is_var(self.kind(i)) && !self.scoped(i))
     }
 
     // Rules 7 to 10. Where they hold, the table has the types.
