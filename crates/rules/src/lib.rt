@@ -139,7 +139,8 @@ pub fn fill_slots(s: &[u8], table: &mut [u16; Sheet::NODES]) -> usize
     usize::from(slot)
 }
 
-// A sheet that passes rules 1 to 6, with the table of where each expression ends.
+// A sheet that passes rules 1 to 6, with the table of where each expression ends. A field that is a reference is copied into a local before
+// it is indexed or lent on as a slice.
 #[derive(Clone, Copy)]
 struct Tree<'a> {
     s: &'a [u8],
@@ -179,9 +180,6 @@ impl<'a> Tree<'a> {
         Node(ends.get(usize::from(i)).copied().unwrap_or(0))
     }
 
-    // How many nodes stand above each node: all, or the FBYs alone. Which, the flag of the definitions counted and Overs says: a closure
-    // in its place would need a contract that ties it to them.
-
     // A node's operands all get one number.
     fn hand_down(self, i: Node, over: u16, table: &mut [u16; Sheet::NODES])
         requires i_bound { i.0 < bytes.nodes self.s.now }
@@ -192,14 +190,15 @@ impl<'a> Tree<'a> {
         }
     }
 
+    // How many nodes stand above each node: all, or the FBYs alone. Which, the flag of the definitions counted and Overs says: a closure
+    // in its place would need a contract that ties it to them.
     fn fill_overs(self, delays_only: bool, table: &mut [u16; Sheet::NODES])
         ensures { scope.Overs self.entry.s.now delays_only table.new }
     {
-        let s = self.s;
         table[0] = 0;
-        for i in 0..sheet::nodes(s) as u16 {
+        for i in 0..sheet::nodes(self.s) as u16 {
             let above = table[usize::from(i)];
-            let over = above + u16::from(counted(s, delays_only, Node(i)));
+            let over = above + u16::from(counted(self.s, delays_only, Node(i)));
             self.hand_down(Node(i), over, table);
         }
     }
@@ -229,11 +228,10 @@ impl<'a> Tree<'a> {
     fn scoped(self, i: Node) -> bool
         ensures { result ≡ scope.scoped self.entry.s.now (bytes.argument self.entry.s.now i.0) i.0 }
     {
-        let s = self.s;
-        if sheet::nodes(s) <= sheet::argument(s, i) as usize {
+        if sheet::nodes(self.s) <= sheet::argument(self.s, i) as usize {
             return false;
         }
-        let b = sheet::binder(s, i);
+        let b = sheet::binder(self.s, i);
         match self.kind(b) {
             Kind::Rec(_) => self.lies(b, 0, i),
             Kind::Let => self.lies(b, 1, i),
@@ -294,8 +292,7 @@ impl<'a> Tree<'a> {
         requires tests { (i : _) (b : Bool) → i.0 < bytes.nodes self.s.now → F.post breaks i b → b ≡ check.breaks self.s.now rule i.0 }
         ensures { told result ≡ check.ruled self.entry.s.now rule }
     {
-        let s = self.s;
-        for i in 0..sheet::nodes(s) as u16 {
+        for i in 0..sheet::nodes(self.s) as u16 {
             if breaks(Node(i)) {
                 return Err(rule.refusal(Node(i)));
             }
@@ -354,10 +351,9 @@ impl<'a> ScopedTree<'a> {
         ensures { result ≡ types.type_rule self.entry.tree.s.now i.0 (types.type_in table.now) }
     {
         let tree = self.tree;
-        let s = tree.s;
         match tree.kind(i) {
             Kind::Const(t) | Kind::Fby(t) | Kind::Rec(t) => t,
-            Kind::Input => sheet::column_type(s, sheet::input_column(s, i)),
+            Kind::Input => sheet::column_type(tree.s, sheet::input_column(tree.s, i)),
             Kind::Var => tree.named_type(table, self.binder(i)),
             Kind::Op(o) => operator_type(o, tree.operand_type(table, i, 1)),
             Kind::Let | Kind::Check | Kind::Contract => tree.operand_type(table, i, 1),
@@ -371,13 +367,12 @@ impl<'a> ScopedTree<'a> {
         requires settled_before { types.SettledBefore self.tree.s.now i.0 table.old }
         ensures { types.Settled self.entry.tree.s.now i.0 (bytes.end_of self.entry.tree.s.now i.0) table.old table.new }
     {
-        let tree = self.tree;
         let mut next = Node(i.0 + 1);
-        for _ in 0..tree.arity(i) {
+        for _ in 0..self.tree.arity(i) {
             self.settle(next, table);
-            next = tree.end(next);
+            next = self.tree.end(next);
         }
-        table[usize::from(i)] = self.type_by(&*table, i);
+        table[usize::from(i)] = self.type_by(table, i);
     }
 
     // Guard: more FBYs stand above the VAR than above the REC that it names.
@@ -387,12 +382,11 @@ impl<'a> ScopedTree<'a> {
         requires i_bound { i.0 < bytes.nodes self.tree.s.now }
         ensures { result ≡ check.breaks self.entry.tree.s.now Rule.Unguarded i.0 }
     {
-        let tree = self.tree;
-        if !is_var(tree.kind(i)) {
+        if !is_var(self.tree.kind(i)) {
             return false;
         }
         let b = self.binder(i);
-        if !is_rec(tree.kind(b)) {
+        if !is_rec(self.tree.kind(b)) {
             return false;
         }
         overs[usize::from(i)] <= overs[usize::from(b)]
@@ -402,10 +396,10 @@ impl<'a> ScopedTree<'a> {
     fn guard(self) -> Result<(), Refusal>
         ensures { told result ≡ check.ruled self.entry.tree.s.now Rule.Unguarded }
     {
-        let tree = self.tree;
         let mut overs = Sheet::fresh();
-        tree.fill_overs(true, &mut overs);
-        tree.ruled(Rule::Unguarded, |i| self.unguarded(&overs, i))
+        self.tree.fill_overs(true, &mut overs);
+        self.tree
+            .ruled(Rule::Unguarded, |i| self.unguarded(&overs, i))
     }
 
     // Rules 9 and 10. The table gets the types.
@@ -414,10 +408,9 @@ impl<'a> ScopedTree<'a> {
         ensures result_value { told result ≡ check.ruled self.entry.tree.s.now Rule.Types then check.ruled self.entry.tree.s.now Rule.Unguarded }
         ensures typed { types.Typed self.entry.tree.s.now table.new }
     {
-        let tree = self.tree;
         self.settle(Node(0), table);
-        let settled = &*table;
-        tree.ruled(Rule::Types, |i| tree.mistyped(settled, i))?;
+        self.tree
+            .ruled(Rule::Types, |i| self.tree.mistyped(table, i))?;
         self.guard()
     }
 }
@@ -456,8 +449,7 @@ pub fn judge(s: &[u8], tables: &mut Tables) -> Result<Sheet, Refusal>
     let mut types = untyped();
     tree.tree_rules(&mut types)?;
     let slots = fill_slots(s, &mut tables.slots);
-    let slot_of = &tables.slots;
-    tree.ruled(Rule::Slots, |i| tree.slotless(slot_of, i))?;
+    tree.ruled(Rule::Slots, |i| tree.slotless(&tables.slots, i))?;
     Ok(Sheet {
         nodes: sheet::nodes(s),
         columns: usize::from(sheet::byte(s, 3)),
