@@ -130,8 +130,8 @@ pub fn fill_slots(s: &[u8], table: &mut [u16; Sheet::NODES]) -> usize
         return 0;
     }
     let mut slot: u16 = 0;
-    for i in 0..n {
-        table[i] = slot;
+    for (i, entry) in table[..n].iter_mut().enumerate() {
+        *entry = slot;
         if is_fby(sheet::kind_at(s, Node(i as u16))) {
             slot += 1;
         }

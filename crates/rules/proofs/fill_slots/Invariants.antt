@@ -6,4 +6,4 @@ use Rattle.rules.proofs.fill_slots.Given as goal
 
 abbrev pub invariant-loop-i : goal.invariant-loop-i
 invariant-loop-i l =
-    (l.slot ≡ count (fby_at l.s) l.i) × ((j : ℕ) → j < l.i → get_or l.table j 0 ≡ count (fby_at l.s) j)
+    (l.slot ≡ count (fby_at l.s) l.i) × ((j : ℕ) → j < l.i → get_or l.entry-items j 0 ≡ count (fby_at l.s) j)
