@@ -1,7 +1,7 @@
 // Needs within a tick, the house order, and the test of an order (rule 15).
 #![tactic(auto)]
 
-ghost use Rattle.std.specs.Prelude.{◌≡◌, ◌↔◌, IsTrue, false, true, ◌<◌, ◌≤◌, length, get_or, set, replicate};
+ghost use Rattle.std.specs.Prelude.{◌≡◌, ◌↔◌, IsTrue, false, true, ◌<◌, ◌≤◌, length, get_or, set, replicate, Some, None, MatchOption};
 ghost use Rattle.finite.specs.Lowest.{lowest};
 ghost use Rattle.table.specs.Order.{ready};
 ghost use Rattle.sheet.specs.Ceilings.{max_nodes};
@@ -86,10 +86,10 @@ impl Marks {
     }
 }
 
-// The lowest node not yet placed whose needs are all placed, n where there is none.
+// The lowest node not yet placed whose needs are all placed. Both searches stand here, the inner one left by label: a form of the project's.
 #[tactic(auto, using(crate::proofs::FunctionLaws::all_met, crate::proofs::FunctionLaws::not_met, finite::proofs::LowestLaws::lowest_none), unfolding(table::specs::Order::ready))]
-fn next(s: &[u8], ends: &[u16; Sheet::NODES], placed: &Marks, n: u16) -> Node
-    ensures { Given s.now ends.now → n ≤ nodes s.now → result.0 ≡ lowest (ready (needs s.now) (λ k. get_or placed.now.marks k false)) 0 n }
+fn next(s: &[u8], ends: &[u16; Sheet::NODES], placed: &Marks, n: u16) -> Option<Node>
+    ensures { Given s.now ends.now → n ≤ nodes s.now → MatchOption result (lowest (ready (needs s.now) (λ k. get_or placed.now.marks k false)) 0 n ≡ n) (λ i. i.0 ≡ lowest (ready (needs s.now) (λ k. get_or placed.now.marks k false)) 0 n) }
 {
     'nodes: for i in 0..n {
         if placed.has(Node(i)) {
@@ -101,9 +101,9 @@ fn next(s: &[u8], ends: &[u16; Sheet::NODES], placed: &Marks, n: u16) -> Node
                 continue 'nodes;
             }
         }
-        return Node(i);
+        return Some(Node(i));
     }
-    Node(n)
+    None
 }
 
 // The house order, into a slice of as many entries as the sheet has nodes.
@@ -116,7 +116,9 @@ pub fn fill_house(s: &[u8], ends: &[u16; Sheet::NODES], order: &mut [u16])
     let n = order.len() as u16;
     let mut placed = Marks::new();
     for entry in order.iter_mut() {
-        let i = next(s, ends, &placed, n);
+        let Some(i) = next(s, ends, &placed, n) else {
+            return;
+        };
         *entry = i.0;
         placed.put(i);
     }
