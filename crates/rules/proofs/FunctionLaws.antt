@@ -1,5 +1,5 @@
 -- What functions' proofs cite: an INPUT's column, what a refusal says of Check, and the table of how many nodes stand above each while it is filled.
-use Prim.Native.Nat.{ℕ, ◌<◌}
+use Prim.Native.Nat.{ℕ, ◌<◌, ◌≤◌}
 use mathlib.Core.Path.{◌≡◌}
 use mathlib.Core.Bool.{Bool}
 use mathlib.Core.List.{List}
@@ -28,7 +28,14 @@ unfolding check answer
 turned_away s x (Ok z) h e = absurd h
 turned_away s x (Err y) h e = rw (h, ← e)
 
--- a table of how many nodes stand above each is right at the root and at the operands of the nodes before i
-abbrev pub Reached : List ℕ → (ℕ → Bool) → ℕ → List ℕ → Type 0
-Reached s p i table =
-    (get_or table 0 0 ≡ 0) × ((a k : ℕ) → a < i → k < arity_at s a → get_or table (operand s a k) 0 ≡ over s p (operand s a k))
+-- a table is right at the root and at the operands of the nodes before i, where P says when an entry is right
+abbrev pub Reached : List ℕ → (P : ℕ → ℕ → Type 0) → ℕ → List ℕ → Type 0
+Reached s P i table =
+    P 0 (get_or table 0 0) × ((a k : ℕ) → a < i → k < arity_at s a → P (operand s a k) (get_or table (operand s a k) 0))
+
+-- an entry of a table of counts is no larger than its node's number, and is how many nodes that pass p stand above
+abbrev pub Small : ℕ → ℕ → Type 0
+Small j x = x ≤ j
+
+abbrev pub Over : List ℕ → (ℕ → Bool) → ℕ → ℕ → Type 0
+Over s p j x = x ≡ over s p j

@@ -4,6 +4,7 @@ use Rattle.finite.specs.Lowest.{lowest}
 use Rattle.finite.specs.Count.{count}
 use Rattle.sheet.specs.Bytes.{nodes, kind_at, is_fby, operand, lies, above}
 use Rattle.sheet.specs.declared.Kind.{Kind}
+use Rattle.sheet.specs.declared.Node.{Node}
 use Rattle.sheet.specs.declared.Kind.TheVariants.{Const, Input, Var, Op, Fby, Rec, Let, Check, Contract, Unknown}
 
 -- how many nodes that pass p stand above node i
@@ -20,6 +21,10 @@ fby_at s i = is_fby (kind_at s i)
 -- the nodes that a table of counts goes by: the FBYs alone, or all
 unfoldable pub counted : List ℕ → (delaysOnly : Bool) → ℕ → Bool
 counted s delaysOnly i = not delaysOnly || fby_at s i
+
+-- what a call answers at a node of the sheet is whether the node passes p
+abbrev pub Tests : List ℕ → (post : Node → Bool → Type 0) → (p : ℕ → Bool) → Type 0
+Tests s post p = (i : Node) (b : Bool) → i.0 < nodes s → post i b → b ≡ p i.0
 
 -- a table that has for each node how many such nodes stand above it
 abbrev pub Overs : List ℕ → Bool → List ℕ → Type 0

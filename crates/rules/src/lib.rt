@@ -39,6 +39,8 @@ impl Rule {
     }
 }
 
+// Of what kind a node is. These are functions, so that each has the definition's name in its contract.
+
 #[tactic(auto, unfolding(sheet::specs::Bytes::is_var))]
 fn is_var(k: Kind) -> bool
     ensures { result ≡ bytes.is_var k }
@@ -58,14 +60,6 @@ fn is_rec(k: Kind) -> bool
     ensures { result ≡ scope.is_rec k }
 {
     matches!(k, Kind::Rec(_))
-}
-
-// The nodes that a table of counts goes by: all, or the FBYs alone.
-#[tactic(auto, unfolding(crate::specs::Scope::counted))]
-fn counted(s: &[u8], delays_only: bool, i: Node) -> bool
-    ensures { result ≡ scope.counted s.now delays_only i.0 }
-{
-    !delays_only || is_fby(sheet::kind_at(s, i))
 }
 
 #[tactic(auto, unfolding(crate::specs::Types::operator_type))]
@@ -190,15 +184,15 @@ impl<'a> Tree<'a> {
         }
     }
 
-    // How many nodes stand above each node: all, or the FBYs alone. Which, the flag of the definitions counted and Overs says: a closure
-    // in its place would need a contract that ties it to them.
-    fn fill_overs(self, delays_only: bool, table: &mut [u16; Sheet::NODES])
-        ensures { scope.Overs self.entry.s.now delays_only table.new }
+    // How many nodes that count stand above each node.
+    fn fill_overs<F: Fn(Node) -> bool>(self, counts: F, table: &mut [u16; Sheet::NODES])
+        requires callable { (i : _) → i.0 < bytes.nodes self.s.now → F.pre counts i }
+        ensures { (delays_only : Bool) → scope.Tests self.entry.s.now (F.post counts) (scope.counted self.entry.s.now delays_only) → scope.Overs self.entry.s.now delays_only table.new }
     {
         table[0] = 0;
         for i in 0..sheet::nodes(self.s) as u16 {
             let above = table[usize::from(i)];
-            let over = above + u16::from(counted(self.s, delays_only, Node(i)));
+            let over = above + u16::from(counts(Node(i)));
             self.hand_down(Node(i), over, table);
         }
     }
@@ -305,7 +299,7 @@ impl<'a> Tree<'a> {
         ensures { told result ≡ check.ruled self.entry.s.now Rule.Depth }
     {
         let mut overs = Sheet::fresh();
-        self.fill_overs(false, &mut overs);
+        self.fill_overs(|_| true, &mut overs);
         self.ruled(Rule::Depth, |i| self.too_deep(&overs, i))
     }
 
@@ -397,7 +391,8 @@ impl<'a> ScopedTree<'a> {
         ensures { told result ≡ check.ruled self.entry.tree.s.now Rule.Unguarded }
     {
         let mut overs = Sheet::fresh();
-        self.tree.fill_overs(true, &mut overs);
+        self.tree
+            .fill_overs(|i| is_fby(self.tree.kind(i)), &mut overs);
         self.tree
             .ruled(Rule::Unguarded, |i| self.unguarded(&overs, i))
     }

@@ -34,6 +34,7 @@ pub returns : goal.returns
 unfolding slot_of slots
 returns c h =
     let l = c.loop-i in
-    let e : l.i ≡ nodes c.args.s.now = omega arith in
-    (c.from.ensures ∙ l.invariant.0 ∙ ap (count (fby_at c.args.s.now)) e,
-    λ j u. get_or-append l.entry-items _ 0 j (omega arith) ∙ l.invariant.1 j (omega arith))
+    let e : l.i ≡ nodes c.args.s.now = omega arith in (
+      c.from.ensures ∙ l.invariant.0 ∙ ap (count (fby_at c.args.s.now)) e,
+      λ j u. get_or-append l.entry-items _ 0 j (omega arith) ∙ l.invariant.1 j (omega arith),
+    )
