@@ -218,7 +218,7 @@ impl<'a> Accepted<'a> {
     {
         for at in order {
             let i = Node(*at);
-            let value = self.value(row, cells, &*values, i);
+            let value = self.value(row, cells, values, i);
             values[usize::from(i)] = value;
         }
     }
@@ -239,8 +239,8 @@ impl<'a> Accepted<'a> {
         requires values_len { length values.old ≡ nodes self.s.now }
         ensures { operations.Worked self.entry.s.now row.now cells.old cells.new values.new }
     {
-        self.work_nodes(row, &*cells, order, values);
-        self.store(&*values, cells);
+        self.work_nodes(row, cells, order, values);
+        self.store(values, cells);
     }
 
     // The verdicts, once all values are there.
@@ -325,9 +325,9 @@ impl<'a> Accepted<'a> {
         let mut run = RunState::fresh();
         for (t, output) in outputs.iter_mut().enumerate() {
             let from = t * columns;
-            self.step(&rows[from..from + columns], &*order, cells, values);
-            *output = value_of(&*values, Node(0));
-            run = run.after(0 < self.failures(&*values));
+            self.step(&rows[from..from + columns], order, cells, values);
+            *output = value_of(values, Node(0));
+            run = run.after(0 < self.failures(values));
         }
         run.failing
     }
@@ -455,10 +455,10 @@ pub fn tick(
 {
     let mut tables = Tables::fresh();
     let z = rules::judge(s, &mut tables)?;
-    test_tick(s, z, &tables.ends, row, &*cells, order, values.len())?;
+    test_tick(s, z, &tables.ends, row, cells, order, values.len())?;
     let accepted = Accepted { s, tables: &tables };
     accepted.step(row, order, cells, values);
-    Ok(accepted.answer(&*values))
+    Ok(accepted.answer(values))
 }
 
 // RUN
