@@ -57,8 +57,6 @@ module _ (s : List ℕ) (z : Sheet) (e : accepted z ≡ check s) where
   pub few_slots : z.slots ≤ max_slots
   few_slots = omega (arith, slots_by, sound_by.few)
 
--- a part of a local array, from its start
-
 -- rules that follow those of the sheet
 module _ (s : List ℕ) (tests : Ruling) where
   pub after_refusal : (number place : ℕ) → turned number place ≡ check s → rules s then tests ≡ refused number place
@@ -77,19 +75,16 @@ module _ (s : List ℕ) (old : List ℤ) where
   start_refused r e = let q = after_refusal s (lent Cells (length old) (slots s)) _ _ e in record { answer = rw q; cells = rw q }
 
   module _ {z : Sheet} (e : accepted z ≡ check s) where
-    pub start_turned : (length old ≡ z.slots → ⊥) → Start s old (Err (WrongLength Cells)) old
-    unfolding start_rules rule at_end
-    start_turned n =
-        let q = after-rules s (lent Cells (length old) (slots s)) e in
-        let b = ne_eqb (length old) (slots s) (λ x. n (x ∙ sym (slots_by s z e))) in
-        record { answer = rw (q, b); cells = rw (q, b) }
+    sized : rules s then lent Cells (length old) (slots s) ≡ lent Cells (length old) z.slots
+    sized = after-rules s _ e ∙ ap (lent Cells (length old)) (sym (slots_by s z e))
 
-    pub start_done : length old ≡ z.slots → (new : List ℤ) → new ≡ start_cells s → Start s old (Ok tt) new
-    unfolding start_rules rule at_end
-    start_done l new w =
-        let q = after-rules s (lent Cells (length old) (slots s)) e in
-        let b = eq-eqb (length old) (slots s) (l ∙ slots_by s z e) in
-        record { answer = rw (q, b); cells = rw (q, b) w }
+    pub start_turned : (r : Refusal) → refused (number_of r) (place_of r) ≡ lent Cells (length old) z.slots → Start s old (Err r) old
+    unfolding start_rules at_end
+    start_turned r t = let q = sized ∙ sym t in record { answer = rw q; cells = rw q }
+
+    pub start_done : passed ≡ lent Cells (length old) z.slots → (new : List ℤ) → new ≡ start_cells s → Start s old (Ok tt) new
+    unfolding start_rules at_end
+    start_done t new w = let q = sized ∙ sym t in record { answer = rw q; cells = rw q w }
 
 -- ---- Tick
 

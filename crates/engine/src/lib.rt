@@ -27,7 +27,7 @@ use rules::Tables;
 use sheet::{Column, Kind, Lent, Node, Refusal, Sheet, Slot, ValueType};
 
 // A tick's answer: the root's value, the count of nodes not PASS, and the lowest such node with its verdict, or that there is none.
-#[derive(Clone, Copy)]
+#[derive(Clone, Copy, Debug, PartialEq, Eq)]
 pub struct Answer {
     pub root: i32,
     pub failures: usize,
@@ -35,7 +35,7 @@ pub struct Answer {
 }
 
 // A run: the ticks so far, and how many of them had a verdict other than PASS.
-#[derive(Clone, Copy)]
+#[derive(Clone, Copy, Debug, PartialEq, Eq)]
 pub struct RunState {
     pub ticks: usize,
     pub failing: usize,
@@ -397,16 +397,16 @@ fn test_tick(
     row: &[i32],
     cells: &[i32],
     order: &[u16],
-    values: usize,
+    values_len: usize,
 ) -> Result<(), Refusal>
     requires given { Given s.now ends.now }
     requires z_value { z ≡ sheet s.now }
-    ensures { told result ≡ operations.tick_tests s.now row.now cells.now order.now values }
+    ensures { told result ≡ operations.tick_tests s.now row.now cells.now order.now values_len }
 {
     test_length(Lent::Rows, row.len(), z.columns)?;
     test_length(Lent::Cells, cells.len(), z.slots)?;
     test_length(Lent::Order, order.len(), z.nodes)?;
-    test_length(Lent::Values, values, z.nodes)?;
+    test_length(Lent::Values, values_len, z.nodes)?;
     test_rows(s, row)?;
     test_cells(s, cells)?;
     order::test_order(s, ends, order)
@@ -434,10 +434,7 @@ pub fn start(s: &[u8], cells: &mut [i32]) -> Result<(), Refusal>
     ensures { operations.Start s.now cells.old result cells.new }
 {
     let z = rules::check(s)?;
-    // Not by test_length: the must-fail edit refuse_right_cells turns this line.
-    if cells.len() != z.slots {
-        return Err(Refusal::Lent(Lent::Cells));
-    }
+    test_length(Lent::Cells, cells.len(), z.slots)?;
     fill_start(s, cells);
     Ok(())
 }
