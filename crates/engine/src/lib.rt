@@ -85,24 +85,11 @@ impl RunState {
     }
 }
 
-// Entries of the lent slices, 0 past the end: of the values by node, of the cells by slot, of the row by column.
-
-fn value_of(values: &[i32], i: Node) -> i32
-    ensures { result ≡ get_or values.now i.0 (pos 0) }
+// An entry of a lent slice, 0 past the end: of the values by node, of the cells by slot, of the row by column.
+fn entry<I: Into<usize>>(xs: &[i32], i: I) -> i32
+    ensures { (n : ℕ) × I.converts i n × (result ≡ get_or xs.now n (pos 0)) }
 {
-    values.get(usize::from(i)).copied().unwrap_or(0)
-}
-
-fn cell(cells: &[i32], j: Slot) -> i32
-    ensures { result ≡ get_or cells.now j.0 (pos 0) }
-{
-    cells.get(usize::from(j.0)).copied().unwrap_or(0)
-}
-
-fn input(row: &[i32], c: Column) -> i32
-    ensures { result ≡ get_or row.now c.0 (pos 0) }
-{
-    row.get(usize::from(c.0)).copied().unwrap_or(0)
+    xs.get(i.into()).copied().unwrap_or(0)
 }
 
 // A node's constant or first value.
@@ -167,7 +154,7 @@ impl<'a> Accepted<'a> {
         ensures { k < arity (kind_at self.entry.s.now i.0) → result ≡ at (pos 0) values.now (operand self.entry.s.now i.0 k) }
     {
         let tables = self.tables;
-        value_of(values, sheet::operand(&tables.ends, i, k))
+        entry(values, sheet::operand(&tables.ends, i, k))
     }
 
     fn need(self, values: &[i32], i: Node, k: usize) -> i32
@@ -175,7 +162,7 @@ impl<'a> Accepted<'a> {
         ensures { k < need_count (kind_at self.entry.s.now i.0) → result ≡ at (pos 0) values.now (get_or (needs self.entry.s.now i.0) k 0) }
     {
         let tables = self.tables;
-        value_of(values, order::need(self.s, &tables.ends, i, k))
+        entry(values, order::need(self.s, &tables.ends, i, k))
     }
 
     fn slot(self, i: Node) -> Slot
@@ -194,14 +181,14 @@ impl<'a> Accepted<'a> {
     {
         match sheet::kind_at(self.s, i) {
             Kind::Const(_) => literal(self.s, i),
-            Kind::Input => input(row, sheet::input_column(self.s, i)),
+            Kind::Input => entry(row, sheet::input_column(self.s, i)),
             Kind::Op(o) => {
                 let a = self.need(values, i, 0);
                 let b = self.need(values, i, 1);
                 let c = self.need(values, i, 2);
                 number::apply(o, a, b, c)
             }
-            Kind::Fby(_) => cell(cells, self.slot(i)),
+            Kind::Fby(_) => entry(cells, self.slot(i)),
             Kind::Var | Kind::Rec(_) | Kind::Let | Kind::Check | Kind::Contract => {
                 self.need(values, i, 0)
             }
@@ -296,7 +283,7 @@ impl<'a> Accepted<'a> {
         ensures { result ≡ operations.answer_of self.entry.s.now (at (pos 0) values.now) }
     {
         Answer {
-            root: value_of(values, Node(0)),
+            root: entry(values, Node(0)),
             failures: self.failures(values),
             lowest: self.lowest(values),
         }
@@ -326,7 +313,7 @@ impl<'a> Accepted<'a> {
         for (t, output) in outputs.iter_mut().enumerate() {
             let from = t * columns;
             self.step(&rows[from..from + columns], order, cells, values);
-            *output = value_of(values, Node(0));
+            *output = entry(values, Node(0));
             run = run.after(0 < self.failures(values));
         }
         run.failing
@@ -367,7 +354,7 @@ fn test_cells(s: &[u8], cells: &[i32]) -> Result<(), Refusal>
     let mut j = 0;
     for i in 0..sheet::nodes(s) as u16 {
         if let Kind::Fby(t) = sheet::kind_at(s, Node(i)) {
-            if faulty(t, cell(cells, Slot(j))) {
+            if faulty(t, entry(cells, Slot(j))) {
                 return Err(Refusal::Cell(Slot(j)));
             }
             j += 1;

@@ -165,8 +165,8 @@ impl Refusal {
             | Refusal::Unguarded(i)
             | Refusal::Slots(i) => usize::from(i),
             Refusal::Lent(slice) => slice as usize,
-            Refusal::Cell(j) => usize::from(j.0),
-            Refusal::Order(p) => usize::from(p.0),
+            Refusal::Cell(j) => usize::from(j),
+            Refusal::Order(p) => usize::from(p),
         }
     }
 }
@@ -177,6 +177,33 @@ impl From<Node> for usize {
 
     fn from(i: Node) -> usize {
         usize::from(i.0)
+    }
+}
+
+// A slot's place in the cells.
+impl From<Slot> for usize {
+    ghost from_gives = { λ j n. n ≡ j.0 };
+
+    fn from(j: Slot) -> usize {
+        usize::from(j.0)
+    }
+}
+
+// A column's place in a row.
+impl From<Column> for usize {
+    ghost from_gives = { λ c n. n ≡ c.0 };
+
+    fn from(c: Column) -> usize {
+        usize::from(c.0)
+    }
+}
+
+// A position's place in an order.
+impl From<Position> for usize {
+    ghost from_gives = { λ p n. n ≡ p.0 };
+
+    fn from(p: Position) -> usize {
+        usize::from(p.0)
     }
 }
 

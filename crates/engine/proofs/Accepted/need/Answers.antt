@@ -8,4 +8,4 @@ use Rattle.engine.proofs.Accepted.need.Goals as goal
 pub returns : goal.returns
 returns c =
     let a = c.args in
-    λ l. back_ok c.value_of.type_inv ∙ c.value_of.ensures ∙ ap (at (pos 0) a.values.now) (c.need.ensures (given a.self) c.requires l)
+    λ l. back_ok c.entry.type_inv ∙ c.entry.ensures.2 ∙ ap (at (pos 0) a.values.now) (c.entry.ensures.1 ∙ c.need.ensures (given a.self) c.requires l)

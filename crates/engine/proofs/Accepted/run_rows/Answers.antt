@@ -1,6 +1,7 @@
 -- The house order is right, and the fresh cells are those before tick 0; the slices after t turns are those after t ticks.
-use Rattle.std.proofs.Common.{refl, ◌∙◌, rules, arith}
+use Rattle.std.proofs.Common.{refl, ap, ◌∙◌, pos, rules, arith}
 use Rattle.number.proofs.Bridge.{back_ok}
+use Rattle.table.specs.Equations.{at}
 use Rattle.order.proofs.OrderLaws.{house_right}
 use Rattle.engine.proofs.FunctionLaws.{given}
 use Rattle.engine.proofs.RunLaws.{row_is, after_none, after_more, after-all}
@@ -21,7 +22,7 @@ loop-t-preserved c =
     let l = c.loop-t in (
       omega (arith, l.invariant.0, c.after-run.ensures.0),
       after_more l.invariant.1 (given c.args.self).sound (omega (arith, l.invariant.1.outputs-size)) (row_is c.args.self.s.now c.args.rows.now l.t c.from-columns.result (search rules))
-          c.step.ensures (back_ok c.value_of.type_inv ∙ c.value_of.ensures) c.failures.ensures refl refl c.after-run.ensures.1,
+          c.step.ensures (back_ok c.entry.type_inv ∙ c.entry.ensures.2 ∙ ap (at (pos 0) _) c.entry.ensures.1) c.failures.ensures refl refl c.after-run.ensures.1,
     )
 
 pub returns : goal.returns
