@@ -7,14 +7,12 @@ use native.Mathlib.Omega.{arith}
 use Rattle.std.proofs.Common.{Result, Ok, Err}
 use lib.IntN.{ℤ, pos}
 use lib.ListN.{length}
-use borrow.Author.Tests.{eq-eqb, ne_eqb}
 use Rattle.table.specs.Equations.{at}
 use Rattle.sheet.specs.Ceilings.{max_nodes, max_slots}
-use Rattle.sheet.specs.Ruling.{Ruling, passed, refused, passes, rule, lent, ◌then◌, at_end, answer, accepted, turned, number_of, place_of}
+use Rattle.sheet.specs.Ruling.{Ruling, passed, refused, passes, lent, ◌then◌, at_end, answer, accepted, turned, number_of, place_of}
 use Rattle.sheet.specs.Bytes.{nodes}
 use Rattle.sheet.specs.declared.Sheet.{Sheet}
 use Rattle.sheet.specs.declared.Refusal.{Refusal}
-use Rattle.sheet.specs.declared.Refusal.TheVariants.{Lent as WrongLength}
 use Rattle.sheet.specs.declared.Lent.TheVariants.{Cells}
 use Rattle.rules.specs.Slots.{slots}
 use Rattle.rules.specs.Check.{rules, sheet, check, Sound, Tables}

@@ -107,6 +107,7 @@ fn fill<F: Fn(Node) -> i32>(s: &[u8], cells: &mut [i32], given: F)
     requires callable { (i : Node) → i.0 < nodes s.now → F.pre given i }
     ensures { (f : ℕ → ℤ) → Gives s.now (F.post given) f → cells.new ≡ gather (fby_at s.now) f (nodes s.now) }
 {
+    // The slot is counted here. Tried: the cells zipped with the FBYs, a filtered range, over which the check takes no loop here.
     let mut j = 0;
     for i in 0..sheet::nodes(s) as u16 {
         if rules::is_fby(sheet::kind_at(s, Node(i))) {
@@ -127,7 +128,8 @@ fn fill_start(s: &[u8], cells: &mut [i32])
 
 // The work over an accepted sheet.
 
-// An accepted sheet with its tables.
+// An accepted sheet with its tables. That a node is one of the sheet's is asked of each method, as in rules. The lengths of the lent slices
+// stand in the contracts: the contract of a tick names each lent slice by itself; a struct of &mut slices would hide them.
 #[derive(Clone, Copy)]
 struct Accepted<'a> {
     s: &'a [u8],
@@ -256,6 +258,8 @@ impl<'a> Accepted<'a> {
     fn failures(self, values: &[i32]) -> usize
         ensures { result ≡ verdicts.failures self.entry.s.now (at (pos 0) values.now) }
     {
+        // Tried: the range filtered and counted. The contracts of std say what its items are place by place, and not as a list that count
+        // could be tied to.
         let mut count = 0;
         for i in 0..self.nodes() {
             if self.verdict_of(values, Node(i)) != Verdict::Pass {
@@ -311,6 +315,7 @@ impl<'a> Accepted<'a> {
         let columns = usize::from(sheet::byte(self.s, 3));
         let mut run = RunState::fresh();
         for (t, output) in outputs.iter_mut().enumerate() {
+            // Not chunks_exact: a sheet may have no columns.
             let from = t * columns;
             self.step(&rows[from..from + columns], order, cells, values);
             *output = entry(values, Node(0));
@@ -350,7 +355,8 @@ fn test_cells(s: &[u8], cells: &[i32]) -> Result<(), Refusal>
     requires { nodes s.now ≤ max_nodes }
     ensures { told result ≡ faults.cell_rule s.now cells.now }
 {
-    // The slot is counted here: filter_map and enumerate would count it too, but as a usize that has to be shown small.
+    // The slot is counted here. Tried: the FBYs' types as a chain with enumerate, whose invariant has to say how far the chain's range
+    // has come, and of each node that it left out that it has no slot.
     let mut j = 0;
     for i in 0..sheet::nodes(s) as u16 {
         if let Kind::Fby(t) = sheet::kind_at(s, Node(i)) {
