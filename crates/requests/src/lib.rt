@@ -6,10 +6,9 @@ use engine::Answer;
 use sheet::Refusal;
 use std::io;
 
-// Why the requests end: the input does, one is bad, or a read or a write failed.
+// Why the requests end before the input does: one is bad, or a read or a write failed.
 #[derive(Drop)]
 enum End {
-    Input,
     BadRequest,
     Failed(io::Error),
 }
@@ -89,13 +88,13 @@ impl Request {
     }
 }
 
-// What values and outputs are lent with, the writer's room and the reader's.
+// What lent slices are filled with: values and outputs, whose bytes are all 0xaa, the writer's room and the reader's.
 
-const LENT: i32 = -1431655766;
+const INT_FILL: i32 = -1431655766;
 
-const LENT_TEXT: u8 = 35;
+const TEXT_FILL: u8 = b'#';
 
-const LENT_BYTES: u8 = 170;
+const BYTE_FILL: u8 = 0xaa;
 
 // Reading.
 
@@ -104,31 +103,6 @@ fn fill<R: io::Read>(from: &mut R, bytes: &mut [u8]) -> Result<(), End> {
         return Err(End::BadRequest);
     }
     Ok(())
-}
-
-// The head of the next request, if the input has one.
-fn read_request<R: io::Read>(from: &mut R) -> Result<Request, End> {
-    let mut head = [0u8; 11];
-    let got = intake::read_full(from, &mut head)?;
-    if got == 0 {
-        return Err(End::Input);
-    }
-    if got < 11 {
-        return Err(End::BadRequest);
-    }
-    let request = Request {
-        operation: Operation::try_from(head[0])?,
-        sheet: u16::from_be_bytes([head[1], head[2]]),
-        rows: u16::from_be_bytes([head[3], head[4]]),
-        cells: u16::from_be_bytes([head[5], head[6]]),
-        order: u16::from_be_bytes([head[7], head[8]]),
-        out: u16::from_be_bytes([head[9], head[10]]),
-    };
-    if request.is_fit() {
-        Ok(request)
-    } else {
-        Err(End::BadRequest)
-    }
 }
 
 // A number as a request has it.
@@ -152,13 +126,38 @@ impl Wire for u16 {
     }
 }
 
+// The head of the next request; None where the input has no more.
+fn read_request<R: io::Read>(from: &mut R) -> Result<Option<Request>, End> {
+    let mut head = [0u8; 11];
+    let got = intake::read_full(from, &mut head)?;
+    if got == 0 {
+        return Ok(None);
+    }
+    if got < head.len() {
+        return Err(End::BadRequest);
+    }
+    // Not the pattern [letter, lengths @ ..] of an array: tried, and a proof with it isn't made yet.
+    let mut lengths = &head[1..];
+    let request = Request {
+        operation: Operation::try_from(head[0])?,
+        sheet: u16::read(&mut lengths)?,
+        rows: u16::read(&mut lengths)?,
+        cells: u16::read(&mut lengths)?,
+        order: u16::read(&mut lengths)?,
+        out: u16::read(&mut lengths)?,
+    };
+    if request.is_fit() {
+        Ok(Some(request))
+    } else {
+        Err(End::BadRequest)
+    }
+}
+
 // A slice of so many numbers, all one and the same, within the limit N.
-fn lent<T: Copy + Default, const N: usize>(count: u16, x: T) -> Result<ArrayVec<T, N>, End> {
+fn filled<T: Copy + Default, const N: usize>(count: u16, x: T) -> Result<ArrayVec<T, N>, End> {
     let mut xs = ArrayVec::new();
     for _ in 0..count {
-        if xs.try_push(x).is_err() {
-            return Err(End::BadRequest);
-        }
+        xs.try_push(x).map_err(|_| End::BadRequest)?;
     }
     Ok(xs)
 }
@@ -168,7 +167,7 @@ fn read_slice<R: io::Read, T: Wire + Copy + Default, const N: usize>(
     from: &mut R,
     count: u16,
 ) -> Result<ArrayVec<T, N>, End> {
-    let mut xs: ArrayVec<T, N> = lent(count, T::default())?;
+    let mut xs: ArrayVec<T, N> = filled(count, T::default())?;
     for x in xs.as_mut_slice().iter_mut() {
         *x = T::read(from)?;
     }
@@ -198,11 +197,7 @@ impl Entry for u16 {
 }
 
 fn hexadecimal(digit: u8) -> u8 {
-    if digit < 10 {
-        b'0' + digit
-    } else {
-        b'a' - 10 + digit % 16
-    }
+    b"0123456789abcdef"[usize::from(digit % 16)]
 }
 
 impl Entry for u8 {
@@ -281,12 +276,12 @@ fn check<W: io::Write>(to: &mut W, s: &[u8]) -> io::Result<()> {
 
 fn house<W: io::Write>(to: &mut W, s: &[u8], order: &mut [u16]) -> io::Result<()> {
     say(to, order::house_order(s, order), put_done)?;
-    say_slice(to, b"order", &*order)
+    say_slice(to, b"order", order)
 }
 
 fn start<W: io::Write>(to: &mut W, s: &[u8], cells: &mut [i32]) -> io::Result<()> {
     say(to, engine::start(s, cells), put_done)?;
-    say_slice(to, b"cells", &*cells)
+    say_slice(to, b"cells", cells)
 }
 
 fn tick<W: io::Write>(
@@ -298,28 +293,28 @@ fn tick<W: io::Write>(
     values: &mut [i32],
 ) -> io::Result<()> {
     say(to, engine::tick(s, row, cells, order, values), put_answer)?;
-    say_slice(to, b"cells", &*cells)?;
-    say_slice(to, b"values", &*values)
+    say_slice(to, b"cells", cells)?;
+    say_slice(to, b"values", values)
 }
 
 fn run<W: io::Write>(to: &mut W, s: &[u8], rows: &[i32], outputs: &mut [i32]) -> io::Result<()> {
     say(to, engine::run(s, rows, outputs), put_count)?;
-    say_slice(to, b"outputs", &*outputs)
+    say_slice(to, b"outputs", outputs)
 }
 
 fn write<W: io::Write>(to: &mut W, s: &[u8], room: &mut [u8]) -> io::Result<()> {
     say(to, writer::write(s, room), put_count)?;
-    say_text(to, &*room)
+    say_text(to, room)
 }
 
 fn read<W: io::Write>(to: &mut W, text: &[u8], room: &mut [u8]) -> io::Result<()> {
     say(to, reader::read(text, room), put_count)?;
-    say_slice(to, b"bytes", &*room)
+    say_slice(to, b"bytes", room)
 }
 
 // The rest of a request, and what its operation answers.
 fn serve<R: io::Read, W: io::Write>(from: &mut R, to: &mut W, r: Request) -> Result<(), End> {
-    let mut sheet: ArrayVec<u8, { Request::SHEET }> = lent(r.sheet, 0)?;
+    let mut sheet: ArrayVec<u8, { Request::SHEET }> = filled(r.sheet, 0)?;
     fill(from, sheet.as_mut_slice())?;
     let rows: ArrayVec<i32, { Request::ROWS }> = read_slice(from, r.rows)?;
     let mut cells: ArrayVec<i32, { Request::CELLS }> = read_slice(from, r.cells)?;
@@ -330,7 +325,7 @@ fn serve<R: io::Read, W: io::Write>(from: &mut R, to: &mut W, r: Request) -> Res
         Operation::House => house(to, s, order.as_mut_slice())?,
         Operation::Start => start(to, s, cells.as_mut_slice())?,
         Operation::Tick => {
-            let mut values: ArrayVec<i32, { Request::OUT }> = lent(r.out, LENT)?;
+            let mut values: ArrayVec<i32, { Request::OUT }> = filled(r.out, INT_FILL)?;
             tick(
                 to,
                 s,
@@ -341,35 +336,37 @@ fn serve<R: io::Read, W: io::Write>(from: &mut R, to: &mut W, r: Request) -> Res
             )?;
         }
         Operation::Run => {
-            let mut outputs: ArrayVec<i32, { Request::OUT }> = lent(r.out, LENT)?;
+            let mut outputs: ArrayVec<i32, { Request::OUT }> = filled(r.out, INT_FILL)?;
             run(to, s, rows.as_slice(), outputs.as_mut_slice())?;
         }
         Operation::Write => {
-            let mut room: ArrayVec<u8, { Request::OUT }> = lent(r.out, LENT_TEXT)?;
+            let mut room: ArrayVec<u8, { Request::OUT }> = filled(r.out, TEXT_FILL)?;
             write(to, s, room.as_mut_slice())?;
         }
         Operation::Read => {
-            let mut room: ArrayVec<u8, { Request::OUT }> = lent(r.out, LENT_BYTES)?;
+            let mut room: ArrayVec<u8, { Request::OUT }> = filled(r.out, BYTE_FILL)?;
             read(to, s, room.as_mut_slice())?;
         }
     }
     Ok(())
 }
 
-fn one_request<R: io::Read, W: io::Write>(from: &mut R, to: &mut W) -> Result<(), End> {
-    let r = read_request(from)?;
-    serve(from, to, r)
-}
-
-// All requests. A proved loop has to end: this one has so many turns that no input uses them up. The first read or write that fails ends it.
-pub fn serve_all<R: io::Read, W: io::Write>(from: &mut R, to: &mut W) -> io::Result<()> {
+// All requests, as far as they can be served. A proved loop has to end: this one has so many turns that no input uses them up.
+fn serve_each<R: io::Read, W: io::Write>(from: &mut R, to: &mut W) -> Result<(), End> {
     for _ in 0..u64::MAX {
-        match one_request(from, to) {
-            Ok(()) => {}
-            Err(End::Input) => return Ok(()),
-            Err(End::BadRequest) => return to.write_all(b"bad request\n"),
-            Err(End::Failed(e)) => return Err(e),
-        }
+        let Some(r) = read_request(from)? else {
+            break;
+        };
+        serve(from, to, r)?;
     }
     Ok(())
+}
+
+// All requests. The first bad one, and the first read or write that fails, ends them.
+pub fn serve_all<R: io::Read, W: io::Write>(from: &mut R, to: &mut W) -> io::Result<()> {
+    match serve_each(from, to) {
+        Ok(()) => Ok(()),
+        Err(End::BadRequest) => to.write_all(b"bad request\n"),
+        Err(End::Failed(e)) => Err(e),
+    }
 }
