@@ -1,6 +1,6 @@
 -- Laws of the loops over the words of a text: the type bytes, and the records.
-use Rattle.std.proofs.Common.{◌≡◌, ℕ, suc, ◌+◌, ◌-◌, ◌<◌, true, false, List, [], ◌∷◌, ◌++◌, length, drop, refl, sym, ap, ◌∙◌, arith, append-nil, append_assoc, length-append, drop-drop}
-use Rattle.finite.proofs.Tests.{not-both}
+use Rattle.std.proofs.Common.{◌≡◌, ℕ, suc, ◌+◌, ◌-◌, ◌<◌, true, false, cond, Option, Some, None, List, [], ◌∷◌, ◌++◌, length, drop, refl, sym, ap, ◌∙◌, arith, append-nil, append_assoc, length-append, drop-drop}
+use Rattle.finite.proofs.Tests.{fails, not-both}
 use Rattle.sheet.specs.Ceilings.{max_columns}
 use Rattle.listing.specs.Telling.{words, is_type, type_no, next, record_told, takes_next, records_told, types_told}
 use Rattle.reader.specs.Reading.{FirstWord, FrontWord, TypesRead}
@@ -17,6 +17,10 @@ types_more : (k : ℕ) (ws : List (List ℕ)) → is_type (next ws) ≡ true →
 unfolding types_told is_type
 types_more k [] b = not-both false b refl
 types_more k (w ∷ ws) b = rw b
+
+-- a word that tells no type byte is no type's
+pub no_type : (w : List ℕ) {o : Option ℕ} → o ≡ cond (is_type w) (Some (type_no w)) None → ((x : ℕ) → o ≡ Some x → ⊥) → is_type w ≡ false
+no_type w e n = fails (is_type w) (λ t. n (type_no w) (e ∙ rw t refl))
 
 module _ {text types left : List ℕ} {n : ℕ} (p : TypesLeft text types left n) where
   pub types_step : {word rest : List ℕ} → n < max_columns → FrontWord left word rest → is_type word ≡ true → TypesLeft text (types ++ (type_no word ∷ [])) rest (n + 1)

@@ -51,7 +51,7 @@ fn word_and_rest(text: &[u8]) -> (&[u8], &[u8])
 fn is_number(word: &[u8]) -> bool
     ensures { result ≡ telling.is_number word.now }
 {
-    sheet::byte(word, 0) < 58
+    sheet::byte(word, 0) <= b'9'
 }
 
 #[tactic(auto, unfolding(listing::specs::Telling::is_constant))]
@@ -83,32 +83,39 @@ fn number_after(letter: u8, word: &[u8]) -> Option<u32>
     }
 }
 
-#[tactic(auto, unfolding(listing::specs::Telling::is_type))]
-fn is_type(word: &[u8]) -> bool
-    ensures { result ≡ telling.is_type word.now }
+// The type byte of a type's word.
+#[tactic(auto, unfolding(listing::specs::Telling::is_type, listing::specs::Telling::type_no))]
+fn type_told(word: &[u8]) -> Option<u8>
+    ensures { result ≡ cond (telling.is_type word.now) (Some (telling.type_no word.now)) None }
 {
-    word == b"bool".as_slice() || word == b"int".as_slice()
+    if word == b"bool".as_slice() {
+        return Some(0);
+    }
+    if word == b"int".as_slice() {
+        return Some(1);
+    }
+    None
 }
 
-#[tactic(auto, unfolding(listing::specs::Telling::type_no))]
-fn type_no(word: &[u8]) -> u8
-    ensures { result ≡ telling.type_no word.now }
-{
-    if word == b"bool".as_slice() { 0 } else { 1 }
-}
+// The names by number, as in the definitions, of which theorem told_back speaks: the contracts are equations with them, and each would have
+// to translate a Kind back.
 
-// The names by number, as in the definitions, of which theorem told_back speaks.
+const FBY: u8 = 14;
+
+const REC: u8 = 15;
+
+const NAMES: u8 = 19;
 
 fn kind_no(n: u8) -> u8
     ensures { result ≡ telling.kind_no n }
 {
-    if n < 14 { 3 } else { n - 10 }
+    if n < FBY { 3 } else { n - 10 }
 }
 
 fn code_no(n: u8) -> u8
     ensures { result ≡ telling.code_no n }
 {
-    if n < 14 { n } else { 0 }
+    if n < FBY { n } else { 0 }
 }
 
 #[tactic(auto, unfolding(listing::specs::Telling::named))]
@@ -121,7 +128,7 @@ fn named(n: u8, word: &[u8]) -> bool
 fn name_no(word: &[u8]) -> u8
     ensures { result ≡ telling.name_no word.now }
 {
-    (0..19).find(|n| named(*n, word)).unwrap_or(19)
+    (0..NAMES).find(|n| named(*n, word)).unwrap_or(NAMES)
 }
 
 // The record that a word tells.
@@ -144,13 +151,13 @@ fn constant_record(kind: u8, word: &[u8]) -> [u8; 6]
     record(kind, 0, u32::from(word == b"true".as_slice()))
 }
 
-#[tactic(auto, unfolding(listing::specs::Telling::name_record))]
+#[tactic(auto, using(crate::proofs::ToldLaws::type_or), unfolding(listing::specs::Telling::name_record))]
 fn name_record(n: u8, next: &[u8]) -> [u8; 6]
     ensures { result ≡ telling.name_record n next.now }
 {
     match n {
-        14 => constant_record(4, next),
-        15 => record(5, type_no(next), 0),
+        FBY => constant_record(4, next),
+        REC => record(5, type_told(next).unwrap_or(1), 0),
         _ => record(kind_no(n), code_no(n), 0),
     }
 }
@@ -175,7 +182,7 @@ fn record_told(word: &[u8], next: &[u8]) -> [u8; 6]
 fn takes_next(word: &[u8]) -> bool
     ensures { result ≡ telling.takes_next word.now }
 {
-    named(14, word) || named(15, word)
+    named(FBY, word) || named(REC, word)
 }
 
 // The sheet that a text tells.
@@ -188,10 +195,10 @@ fn types(text: &[u8]) -> (ArrayVec<u8, TYPES>, &[u8])
     let (_, mut left) = word_and_rest(text);
     for _ in 0..TYPES {
         let (word, rest) = word_and_rest(left);
-        if !is_type(word) {
+        let Some(t) = type_told(word) else {
             break;
-        }
-        types.push(type_no(word));
+        };
+        types.push(t);
         left = rest;
     }
     (types, left)
@@ -241,10 +248,9 @@ pub fn sheet(text: &[u8]) -> Result<ArrayVec<u8, SHEET>, Refusal>
     ensures rule { told result ≡ text_rule text.now }
     ensures bytes { IfOk result (λ s. s.items ≡ telling.sheet_told text.now) }
 {
-    match tell(text) {
-        Some(s) if writer::lists(s.as_slice(), text) => Ok(s),
-        _ => Err(Refusal::Text),
-    }
+    tell(text)
+        .filter(|s| writer::lists(s.as_slice(), text))
+        .ok_or(Refusal::Text)
 }
 
 // The reader.
