@@ -20,6 +20,7 @@ use meaning::Verdict;
 use sheet::{Lent, Node, Refusal, Sheet};
 
 // The sizes of an input and of what is printed of it.
+#[derive(Clone, Copy, Debug, PartialEq, Eq)]
 pub struct Input;
 
 impl Input {
@@ -199,9 +200,10 @@ impl<'a> Accepted<'a> {
         let _ = order::house_order(s, order);
         let _ = engine::start(s, cells);
         for t in 0..ticks {
+            // Not chunks_exact: a sheet may have no columns.
             let from = t * z.columns;
             let row = &rows[from..from + z.columns];
-            let Ok(answer) = engine::tick(s, row, cells, &*order, values) else {
+            let Ok(answer) = engine::tick(s, row, cells, order, values) else {
                 return;
             };
             put_tick(out, t, answer.root, answer.lowest);
@@ -275,7 +277,8 @@ fn accepted_text(input: &[u8]) -> Result<Text, Refusal>
     accepted.rest_text(rest)
 }
 
-// All that sheetrun prints of an input, at the start of `out`; what is returned is its length.
+// All that sheetrun prints of an input, at the start of `out`; what is returned is its length. Into a lent slice, as it was: what callers lend
+// and what is promised of it may not change.
 pub fn sheetrun(input: &[u8], out: &mut [u8]) -> usize
     ensures { Prints printed.max_output (printed.Printed input.now) out.old out.new result }
 {

@@ -2,11 +2,10 @@
 #![tactic(auto)]
 
 ghost use Rattle.std.specs.Prelude.{◌≡◌, length, ◌++◌, IfOk};
-ghost use Rattle.text.specs.Text.{Prints};
+ghost use Rattle.text.specs.Text.{feed, Prints};
 ghost use Rattle.sheet.specs.Ruling.{told};
 ghost use Rattle.sheet.specs.Form.{form};
 ghost use Rattle.listing.specs.Listing.{listing};
-ghost use Rattle.text.specs.Text.{feed};
 ghost use Rattle.exchange.specs.Exchange as printed;
 
 use arrayvec::ArrayVec;
@@ -62,7 +61,8 @@ fn read(input: &[u8]) -> ArrayVec<u8, SHEET>
     reader::sheet(text_in(input)).unwrap_or_else(words::refusal)
 }
 
-// All that sheetlist and sheetread print of an input, at the start of `out`; what is returned is its length.
+// All that sheetlist and sheetread print of an input, at the start of `out`; what is returned is its length. Into a lent slice, as it was:
+// what callers lend and what is promised of it may not change.
 
 pub fn sheetlist(input: &[u8], out: &mut [u8]) -> usize
     ensures { Prints printed.max_printed (λ t. t ≡ printed.sheetlist input.now) out.old out.new result }

@@ -9,7 +9,7 @@ use std::io;
 
 // Reads until `buf` is full or the input ends, and answers how many bytes it put at the start of `buf`: fewer than `buf` holds only where
 // no more came. On an empty `buf` it reads nothing. The first read that fails ends it: what came before stands at the start of `buf`, but
-// how much that is isn't told.
+// how much that is isn't told. No method of std's says how much came: read_exact tells nothing after a short input, read_to_end needs the heap.
 pub fn read_full<R: io::Read>(from: &mut R, buf: &mut [u8]) -> io::Result<usize>
     ensures len { length buf.new ≡ length buf.old }
     ensures bound { ReadsAtMost result buf.new }
@@ -17,6 +17,7 @@ pub fn read_full<R: io::Read>(from: &mut R, buf: &mut [u8]) -> io::Result<usize>
     ensures short { IfOk result (λ n. n < length buf.new → IsAtEnd (R.remaining from.new)) }
     ensures err { OnErr result ((n : ℕ) × (n ≤ length buf.new) × Consumes (R.remaining from.old) (R.remaining from.new) (take n buf.new)) }
 {
+    // Bytes and not turns: a read may bring several.
     let mut done = 0;
     while done < buf.len() {
         let n = from.read(&mut buf[done..])?;

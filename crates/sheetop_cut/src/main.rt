@@ -1,4 +1,4 @@
-// sheetop on requests of which the last is one byte short.
+// sheetop on requests of which the last is one byte short. A program of its own: a crate has one standard input.
 #![tactic(auto)]
 
 use std::io;

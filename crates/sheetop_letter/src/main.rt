@@ -1,4 +1,4 @@
-// sheetop on requests of which the second has a letter that names no operation.
+// sheetop on requests of which the second has a letter that names no operation. A program of its own: a crate has one standard input.
 #![tactic(auto)]
 
 use std::io;

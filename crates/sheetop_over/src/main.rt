@@ -1,4 +1,4 @@
-// sheetop on a request with one int of the rows over the limit.
+// sheetop on a request with one int of the rows over the limit. A program of its own: a crate has one standard input.
 #![tactic(auto)]
 
 use std::io;

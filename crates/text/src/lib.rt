@@ -1,5 +1,5 @@
 // Text: words and decimal numbers, appended to a text of a fixed room, copied into a lent buffer, and read. Where a word has no room, the text
-// is left open.
+// is left open. By hand and not by write!: a write! can fail, and these can't.
 #![tactic(auto)]
 
 ghost use Rattle.std.specs.Prelude.{◌≡◌};
