@@ -163,10 +163,7 @@ pub fn listing(s: &[u8]) -> Result<ArrayVec<u8, TEXT>, Refusal>
 pub fn lists(s: &[u8], text: &[u8]) -> bool
     ensures { result ≡ lists s.now text.now }
 {
-    match listing(s) {
-        Ok(own) => own.as_slice() == text,
-        Err(_) => false,
-    }
+    listing(s).is_ok_and(|own| own.as_slice() == text)
 }
 
 // The writer.
