@@ -10,7 +10,7 @@ use lib.ListN.{length, take, drop, length-drop, length-append}
 use lib.Seq.{length-take-le}
 use borrow.Author.Tests.{le-ltb, eq-eqb}
 use Rattle.finite.specs.Lists.{joined}
-use Rattle.text.specs.Text.{Appends}
+use Rattle.text.specs.Text.{Adds}
 use Rattle.text.proofs.TextLaws.{append_first, append_then, append_next, append_none}
 use Rattle.sheet.specs.Ruling.{passed, refused, rule, ◌then◌, told, said, turned}
 use Rattle.sheet.specs.Bytes.{nodes, columns}
@@ -61,7 +61,7 @@ module _ {s : List ℕ} {rows : List ℤ} {T : ℕ} (p : run_rules s rows T ≡ 
       let (X, m, one) = meaning ((run_exactly s rows T).0 p).0 (row_at s rows) in (_, (meant X m).answer)
 
   -- one more, with its line
-  pub ticks_more : {a : Answer} {last : List ℕ} → r ≡ Ok a → Appends max_output (tick_line t a.root a.lowest) after last →
+  pub ticks_more : {a : Answer} {last : List ℕ} → r ≡ Ok a → Adds max_output (tick_line t a.root a.lowest) after last →
       length (tick_line t a.root a.lowest) ≤ max_line → TicksPut s rows (t + 1) cells' values' before last
   unfolding tick_lines joined answer_of
   ticks_more {a} q u short =
@@ -107,7 +107,7 @@ run_told a {rows} {r = r} T xs k l h =
 
 -- a first line and the lines of T ticks, for whatever values meet the equations
 pub run_printed : (a : Accepted) (rows : List ℤ) (T : ℕ) {before between after : List ℕ} → run_rules a.s.now rows T ≡ passed → before ≡ [] →
-    Appends max_output (ok_line a.sheet.nodes a.sheet.columns a.sheet.slots a.sheet.root) before between →
+    Adds max_output (ok_line a.sheet.nodes a.sheet.columns a.sheet.slots a.sheet.root) before between →
     ((X : ℕ → ℕ → ℤ) → Means a.s.now (row_at a.s.now rows) X → LinesPut a.s.now X T between after) → PrintedBy passed a.s.now rows T after
 run_printed a rows T p e first lines X m =
     let few : T ≤ max_rows = ((run_exactly a.s.now rows T).0 p).2 in

@@ -1,6 +1,6 @@
 -- How the text comes about: the most that it has of each part, and the lines of the ticks so far.
 use Rattle.std.specs.Prelude.{ℕ, ◌*◌, ◌≤◌, ◌≡◌, List, ℤ, length}
-use Rattle.text.specs.Text.{Appends}
+use Rattle.text.specs.Text.{Adds}
 use Rattle.sheet.specs.Ceilings.{max_columns}
 use Rattle.sheet.specs.Bytes.{nodes}
 use Rattle.rules.specs.Slots.{slots}
@@ -20,7 +20,7 @@ max_line = 29
 
 -- a run's first t lines are appended to a text, and they are short
 pub record LinesPut (s : List ℕ) (X : ℕ → ℕ → ℤ) (t : ℕ) (before after : List ℕ) : Type 0 where
-  pub appends : Appends max_output (tick_lines s X t) before after
+  pub appends : Adds max_output (tick_lines s X t) before after
   pub short : length (tick_lines s X t) ≤ max_line * t
 
 -- after t ticks: whatever values meet the equations, the cells are theirs and the lines of their ticks are put

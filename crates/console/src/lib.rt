@@ -2,7 +2,7 @@
 #![tactic(auto)]
 
 ghost use Rattle.std.specs.Prelude.{◌≡◌, ℕ, ◌*◌, ◌/◌, ◌+◌, ◌<◌, ◌≤◌, true, ℤ, length, IfOk};
-ghost use Rattle.text.specs.Text.{Appends, Prints};
+ghost use Rattle.text.specs.Text.{Adds, Prints};
 ghost use Rattle.sheet.specs.Ceilings.{max_nodes, max_columns, max_slots};
 ghost use Rattle.sheet.specs.Ruling.{passed, passes, told, number_of, place_of};
 ghost use Rattle.sheet.specs.Bytes as bytes;
@@ -60,7 +60,7 @@ type Text = ArrayVec<u8, { Input::TEXT }>;
 // The lines.
 
 pub fn put_ok<const N: usize>(out: &mut ArrayVec<u8, N>, z: Sheet)
-    ensures { Appends N (printed.ok_line z.nodes z.columns z.slots z.root) out.old.items out.new.items }
+    ensures { Adds N (printed.ok_line z.nodes z.columns z.slots z.root) out.old.items out.new.items }
 {
     text::put(out, b"ok ");
     text::put_decimal(out, z.nodes as u64);
@@ -74,7 +74,7 @@ pub fn put_ok<const N: usize>(out: &mut ArrayVec<u8, N>, z: Sheet)
 }
 
 fn put_verdict<const N: usize>(out: &mut ArrayVec<u8, N>, v: Verdict)
-    ensures { Appends N (printed.verdict_word v) out.old.items out.new.items }
+    ensures { Adds N (printed.verdict_word v) out.old.items out.new.items }
 {
     let word: &[u8] = match v {
         Verdict::Pass => b"pass",
@@ -87,7 +87,7 @@ fn put_verdict<const N: usize>(out: &mut ArrayVec<u8, N>, v: Verdict)
 
 #[tactic(auto, using(text::proofs::TextLaws::append_then, crate::proofs::LineLaws::failing_length))]
 pub fn put_lowest<const N: usize>(out: &mut ArrayVec<u8, N>, lowest: Option<(Node, Verdict)>)
-    ensures text { Appends N (printed.lowest_words lowest) out.old.items out.new.items }
+    ensures text { Adds N (printed.lowest_words lowest) out.old.items out.new.items }
     ensures short { length (printed.lowest_words lowest) ≤ 12 }
 {
     match lowest {
@@ -108,7 +108,7 @@ fn put_tick<const N: usize>(
     lowest: Option<(Node, Verdict)>,
 )
     requires { t < 1000 }
-    ensures text { Appends N (printed.tick_line t value lowest) out.old.items out.new.items }
+    ensures text { Adds N (printed.tick_line t value lowest) out.old.items out.new.items }
     ensures short { length (printed.tick_line t value lowest) ≤ max_line }
 {
     text::put_decimal(out, t as u64);

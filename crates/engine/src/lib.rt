@@ -312,7 +312,7 @@ impl<'a> Accepted<'a> {
         let tables = self.tables;
         order::fill_house(self.s, &tables.ends, order);
         fill_start(self.s, cells);
-        let columns = usize::from(sheet::byte(self.s, 3));
+        let columns = sheet::columns(self.s);
         let mut run = RunState::fresh();
         for (t, output) in outputs.iter_mut().enumerate() {
             // Not chunks_exact: a sheet may have no columns.
@@ -339,7 +339,7 @@ fn test_rows(s: &[u8], rows: &[i32]) -> Result<(), Refusal>
     requires { columns s.now ≡ 0 → length rows.now ≡ 0 }
     ensures { told result ≡ faults.row_rule s.now rows.now }
 {
-    let columns = usize::from(sheet::byte(s, 3));
+    let columns = sheet::columns(s);
     for (at, v) in rows.iter().enumerate() {
         let c = Column((at % columns) as u16);
         if faulty(sheet::column_type(s, c), *v) {
@@ -410,7 +410,7 @@ fn test_tick(
 fn test_run(s: &[u8], rows: &[i32], ticks: usize) -> Result<(), Refusal>
     ensures { told result ≡ operations.run_tests s.now rows.now ticks }
 {
-    let columns = usize::from(sheet::byte(s, 3));
+    let columns = sheet::columns(s);
     if ticks.checked_mul(columns) != Some(rows.len()) {
         return Err(Refusal::Lent(Lent::Rows));
     }
@@ -427,7 +427,8 @@ pub fn start(s: &[u8], cells: &mut [i32]) -> Result<(), Refusal>
     ensures { operations.Start s.now cells.old result cells.new }
 {
     let z = rules::check(s)?;
-    test_length(Lent::Cells, cells.len(), z.slots)?;
+    let slots = z.slots;
+    test_length(Lent::Cells, cells.len(), slots)?;
     fill_start(s, cells);
     Ok(())
 }

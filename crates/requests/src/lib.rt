@@ -71,6 +71,15 @@ impl Request {
 
     const OUT: usize = 16384;
 
+    // Each length is within its limit.
+    fn is_within(self) -> bool {
+        usize::from(self.sheet) <= Request::SHEET
+            && usize::from(self.rows) <= Request::ROWS
+            && usize::from(self.cells) <= Request::CELLS
+            && usize::from(self.order) <= Request::ORDER
+            && usize::from(self.out) <= Request::OUT
+    }
+
     // Each length that the operation does not use is 0.
     fn is_fit(self) -> bool {
         match self.operation {
@@ -146,7 +155,7 @@ fn read_request<R: io::Read>(from: &mut R) -> Result<Option<Request>, End> {
         order: u16::read(&mut lengths)?,
         out: u16::read(&mut lengths)?,
     };
-    if request.is_fit() {
+    if request.is_within() && request.is_fit() {
         Ok(Some(request))
     } else {
         Err(End::BadRequest)

@@ -447,7 +447,7 @@ pub fn judge(s: &[u8], tables: &mut Tables) -> Result<Sheet, Refusal>
     tree.ruled(Rule::Slots, |i| tree.slotless(&tables.slots, i))?;
     Ok(Sheet {
         nodes: sheet::nodes(s),
-        columns: usize::from(sheet::byte(s, 3)),
+        columns: sheet::columns(s),
         slots,
         root: types[0],
     })

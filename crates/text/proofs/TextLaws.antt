@@ -4,16 +4,16 @@ use lib.Seq.{take_at, length-take-le}
 use Rattle.std.proofs.Math.Seq.{take_all}
 use Rattle.finite.specs.Lists.{joined}
 use Rattle.finite.proofs.Tests.{by-test}
-use Rattle.text.specs.Text.{decimal_by, decimal, integer, digits_after, digits, Appends, Copied, Prints}
+use Rattle.text.specs.Text.{decimal_by, decimal, integer, digits_after, digits, Adds, Copied, Prints}
 
 -- ---- appending
 
 -- nothing
-pub append_none : (room : ℕ) (xs : List ℕ) → Appends room [] xs xs
+pub append_none : (room : ℕ) (xs : List ℕ) → Adds room [] xs xs
 append_none room xs = record { appended = λ h. sym (append-nil xs) }
 
 -- one word after the other
-pub append_then : {room : ℕ} {u v a b c : List ℕ} → Appends room u a b → Appends room v b c → Appends room (u ++ v) a c
+pub append_then : {room : ℕ} {u v a b c : List ℕ} → Adds room u a b → Adds room v b c → Adds room (u ++ v) a c
 append_then {room} {u} {v} {a} {b} p q =
     record {
       appended = λ h.
@@ -22,17 +22,17 @@ append_then {room} {u} {v} {a} {b} p q =
     }
 
 -- a word appended to nothing
-pub append_first : {room : ℕ} {word before after : List ℕ} → before ≡ [] → Appends room word before after → length word ≤ room → after ≡ word
+pub append_first : {room : ℕ} {word before after : List ℕ} → before ≡ [] → Adds room word before after → length word ≤ room → after ≡ word
 append_first e p l = rw e at (p.appended (omega (arith, ap length e)))
 
 -- one list more of lists one after the other
-pub append_next : {room : ℕ} {a b c : List ℕ} (f : ℕ → List ℕ) (n : ℕ) → Appends room (joined f n) a b → Appends room (f n) b c
-    → Appends room (joined f (n + 1)) a c
+pub append_next : {room : ℕ} {a b c : List ℕ} (f : ℕ → List ℕ) (n : ℕ) → Adds room (joined f n) a b → Adds room (f n) b c
+    → Adds room (joined f (n + 1)) a c
 unfolding joined
 append_next f n p q = rw (add-one n) (append_then p q)
 
 -- none of them yet
-pub append_start : {room : ℕ} {a : List ℕ} (f : ℕ → List ℕ) → Appends room (joined f 0) a a
+pub append_start : {room : ℕ} {a : List ℕ} (f : ℕ → List ℕ) → Adds room (joined f 0) a a
 unfolding joined
 append_start f = append_none _ _
 

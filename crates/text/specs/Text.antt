@@ -32,7 +32,7 @@ unfoldable pub digits : List ℕ → ℕ
 digits word = digits_after 0 word
 
 -- from `before` to `after` a word is appended, if there is room for it
-pub record Appends (room : ℕ) (word before after : List ℕ) : Type 0 where
+pub record Adds (room : ℕ) (word before after : List ℕ) : Type 0 where
   pub appended : length before + length word ≤ room → after ≡ before ++ word
 
 -- the buffer's first r bytes are as many of the text's as there is room for. The others are what was there of old

@@ -3,13 +3,13 @@
 #![tactic(auto)]
 
 ghost use Rattle.std.specs.Prelude.{◌≡◌};
-ghost use Rattle.text.specs.Text.{decimal, integer, digits, Appends, Copied};
+ghost use Rattle.text.specs.Text.{decimal, integer, digits, Adds, Copied};
 
 use arrayvec::ArrayVec;
 
 // A word.
 pub fn put<const N: usize>(out: &mut ArrayVec<u8, N>, word: &[u8])
-    ensures { Appends N word.now out.old.items out.new.items }
+    ensures { Adds N word.now out.old.items out.new.items }
 {
     let _ = out.try_extend_from_slice(word);
 }
@@ -17,7 +17,7 @@ pub fn put<const N: usize>(out: &mut ArrayVec<u8, N>, word: &[u8])
 // A number in decimal.
 #[tactic(auto, using(crate::proofs::TextLaws::append_then, crate::proofs::TextLaws::decimal_digit, crate::proofs::TextLaws::decimal_more))]
 pub fn put_decimal<const N: usize>(out: &mut ArrayVec<u8, N>, n: u64)
-    ensures { Appends N (decimal n) out.old.items out.new.items }
+    ensures { Adds N (decimal n) out.old.items out.new.items }
 {
     if n < 10 {
         put(out, &[b'0' + n as u8]);
@@ -29,7 +29,7 @@ pub fn put_decimal<const N: usize>(out: &mut ArrayVec<u8, N>, n: u64)
 
 // A number with a sign, in decimal.
 pub fn put_integer<const N: usize>(out: &mut ArrayVec<u8, N>, v: i32)
-    ensures { Appends N (integer v) out.old.items out.new.items }
+    ensures { Adds N (integer v) out.old.items out.new.items }
 {
     if v < 0 {
         put(out, b"-");

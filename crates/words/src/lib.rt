@@ -2,7 +2,7 @@
 #![tactic(auto)]
 
 ghost use Rattle.std.specs.Prelude.{◌≡◌, ◌≤◌, length};
-ghost use Rattle.text.specs.Text.{Appends};
+ghost use Rattle.text.specs.Text.{Adds};
 ghost use Rattle.sheet.specs.Ruling.{number_of, place_of};
 ghost use Rattle.words.specs.Words.{type_word, refused_line};
 
@@ -10,7 +10,7 @@ use arrayvec::ArrayVec;
 use sheet::{Refusal, ValueType};
 
 pub fn put_type<const N: usize>(out: &mut ArrayVec<u8, N>, t: ValueType)
-    ensures { Appends N (type_word t) out.old.items out.new.items }
+    ensures { Adds N (type_word t) out.old.items out.new.items }
 {
     let word: &[u8] = match t {
         ValueType::Bool => b"bool",
@@ -21,7 +21,7 @@ pub fn put_type<const N: usize>(out: &mut ArrayVec<u8, N>, t: ValueType)
 
 #[tactic(auto, using(text::proofs::TextLaws::append_then, crate::proofs::WordLaws::refused_length), unfolding(crate::specs::Words::refused_line))]
 pub fn put_refusal<const N: usize>(out: &mut ArrayVec<u8, N>, r: Refusal)
-    ensures text { Appends N (refused_line (number_of r) (place_of r)) out.old.items out.new.items }
+    ensures text { Adds N (refused_line (number_of r) (place_of r)) out.old.items out.new.items }
     ensures short { length (refused_line (number_of r) (place_of r)) ≤ 33 }
 {
     text::put(out, b"refused ");

@@ -3,7 +3,7 @@
 
 ghost use Rattle.std.specs.Prelude.{◌≡◌, ◌++◌, length, replicate, IfOk};
 ghost use Rattle.finite.specs.Lists.{joined};
-ghost use Rattle.text.specs.Text.{decimal, Appends};
+ghost use Rattle.text.specs.Text.{decimal, Adds};
 ghost use Rattle.sheet.specs.Ceilings.{max_nodes};
 ghost use Rattle.sheet.specs.Bytes as bytes;
 ghost use Rattle.sheet.specs.Form.{Formed, form};
@@ -18,7 +18,7 @@ use sheet::{Column, Kind, Node, Refusal, Sheet, ValueType};
 // What a node carries.
 
 fn put_constant<const N: usize>(out: &mut ArrayVec<u8, N>, t: ValueType, a: u32)
-    ensures { Appends N (text.constant t a) out.old.items out.new.items }
+    ensures { Adds N (text.constant t a) out.old.items out.new.items }
 {
     match (t, a) {
         (ValueType::Bool, 0) => text::put(out, b"false"),
@@ -30,7 +30,7 @@ fn put_constant<const N: usize>(out: &mut ArrayVec<u8, N>, t: ValueType, a: u32)
 // A letter and a number.
 #[tactic(auto, using(text::proofs::TextLaws::append_then))]
 fn put_numbered<const N: usize>(out: &mut ArrayVec<u8, N>, letter: &[u8], a: u32)
-    ensures { Appends N (letter.now ++ decimal a) out.old.items out.new.items }
+    ensures { Adds N (letter.now ++ decimal a) out.old.items out.new.items }
 {
     text::put(out, letter);
     text::put_decimal(out, u64::from(a));
@@ -38,7 +38,7 @@ fn put_numbered<const N: usize>(out: &mut ArrayVec<u8, N>, letter: &[u8], a: u32
 
 #[tactic(auto, using(text::proofs::TextLaws::append_none, text::proofs::TextLaws::append_then), unfolding(listing::specs::Listing::carried))]
 fn put_carried<const N: usize>(out: &mut ArrayVec<u8, N>, k: Kind, a: u32)
-    ensures { Appends N (text.carried k a) out.old.items out.new.items }
+    ensures { Adds N (text.carried k a) out.old.items out.new.items }
 {
     match k {
         Kind::Const(t) => put_constant(out, t, a),
@@ -73,7 +73,7 @@ fn opening(k: Kind) -> &'static [u8]
 }
 
 fn put_closings<const N: usize>(out: &mut ArrayVec<u8, N>, n: u16)
-    ensures { Appends N (replicate n 41) out.old.items out.new.items }
+    ensures { Adds N (replicate n 41) out.old.items out.new.items }
 {
     for _ in 0..n {
         text::put(out, b")");
@@ -107,7 +107,7 @@ fn closings(s: &[u8], ends: &[u16; Sheet::NODES]) -> [u16; Sheet::NODES]
 
 #[tactic(auto, using(text::proofs::TextLaws::append_then), unfolding(listing::specs::Listing::node_text))]
 fn put_node<const N: usize>(out: &mut ArrayVec<u8, N>, k: Kind, a: u32, closings: u16)
-    ensures { Appends N (text.node_text k a closings) out.old.items out.new.items }
+    ensures { Adds N (text.node_text k a closings) out.old.items out.new.items }
 {
     text::put(out, b" ");
     text::put(out, opening(k));
@@ -119,7 +119,7 @@ fn put_node<const N: usize>(out: &mut ArrayVec<u8, N>, k: Kind, a: u32, closings
 #[tactic(auto, using(text::proofs::TextLaws::append_start, text::proofs::TextLaws::append_next), unfolding(listing::specs::Listing::node_at))]
 fn put_nodes<const N: usize>(out: &mut ArrayVec<u8, N>, s: &[u8])
     requires { Formed s.now }
-    ensures { Appends N (joined (text.node_at s.now) (bytes.nodes s.now)) out.old.items out.new.items }
+    ensures { Adds N (joined (text.node_at s.now) (bytes.nodes s.now)) out.old.items out.new.items }
 {
     let mut ends = Sheet::fresh();
     sheet::fill_ends(s, &mut ends);
@@ -137,7 +137,7 @@ fn put_nodes<const N: usize>(out: &mut ArrayVec<u8, N>, s: &[u8])
 
 #[tactic(auto, using(text::proofs::TextLaws::append_start))]
 fn put_columns<const N: usize>(out: &mut ArrayVec<u8, N>, s: &[u8])
-    ensures { Appends N (joined (text.column_at s.now) (bytes.columns s.now)) out.old.items out.new.items }
+    ensures { Adds N (joined (text.column_at s.now) (bytes.columns s.now)) out.old.items out.new.items }
 {
     for c in 0..sheet::byte(s, 3) {
         text::put(out, b" ");

@@ -40,4 +40,4 @@ returns-clause-result_value c =
     let f = formed_by c.in_ok-form.ensures in
     let t = c.in_ok-tree_rules.ensures.result_value in
     let e : passed ≡ rules c.args.s.now = then_next _ _ _ c.in_ok-form.ensures (then_next _ _ _ t c.in_ok-ruled.ensures) in
-    rw (← e, c.nodes.ensures, c.from.ensures, c.byte.ensures, (c.fill_slots-slots.ensures f.few).0, c.tree_rules.ensures.typed (sym t) 0 (omega (arith, f.some)))
+    rw (← e, c.nodes.ensures, c.columns.ensures.0, (c.fill_slots-slots.ensures f.few).0, c.tree_rules.ensures.typed (sym t) 0 (omega (arith, f.some)))

@@ -21,7 +21,7 @@ pub loop-t-preserved : goal.loop-t-preserved
 loop-t-preserved c =
     let l = c.loop-t in (
       omega (arith, l.invariant.0, c.after-run.ensures.0),
-      after_more l.invariant.1 (given c.args.self).sound (omega (arith, l.invariant.1.outputs-size)) (row_is c.args.self.s.now c.args.rows.now l.t c.from-columns.result (search rules))
+      after_more l.invariant.1 (given c.args.self).sound (omega (arith, l.invariant.1.outputs-size)) (row_is c.args.self.s.now c.args.rows.now l.t c.columns-columns.result c.columns-columns.ensures.0)
           c.step.ensures (back_ok c.entry.type_inv ∙ c.entry.ensures.2 ∙ ap (at (pos 0) _) c.entry.ensures.1) c.failures.ensures refl refl c.after-run.ensures.1,
     )
 
