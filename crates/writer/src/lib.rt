@@ -80,14 +80,16 @@ fn put_closings<const N: usize>(out: &mut ArrayVec<u8, N>, n: u16)
     }
 }
 
-// A table to count in; written in place, it would stand whole in every goal.
+// A table to count in; written in place, it would stand whole in every goal. Sheet::fresh promises a length alone: with its entries in the
+// clause the goals of a run grow too large (tried).
 fn zeros() -> [u16; Sheet::NODES]
     ensures { result ≡ replicate max_nodes 0 }
 {
     [0; Sheet::NODES]
 }
 
-// How many expressions close after each node.
+// How many expressions close after each node. This loop and that of put_nodes go by the nodes' numbers and not over the tables' entries, since
+// what they read of the sheet goes by the number too.
 fn closings(s: &[u8], ends: &[u16; Sheet::NODES]) -> [u16; Sheet::NODES]
     requires formed { Formed s.now }
     requires ends { bytes.Ends s.now ends.now }
