@@ -201,7 +201,7 @@ impl<'a> Accepted<'a> {
         let _ = order::house_order(s, order);
         let _ = engine::start(s, cells);
         for t in 0..ticks {
-            // Not chunks_exact: a sheet may have no columns.
+            // Not chunks_exact: a sheet may have no columns. engine cuts a row by the same two lines; a function for both would say no more.
             let from = t * z.columns;
             let row = &rows[from..from + z.columns];
             let Ok(answer) = engine::tick(s, row, cells, order, values) else {

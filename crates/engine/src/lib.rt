@@ -100,7 +100,8 @@ fn literal(s: &[u8], i: Node) -> i32
     number::of_bits(sheet::argument(s, i))
 }
 
-// Each slot gets what is given for its FBY.
+// Each slot gets what is given for its FBY. That the nodes are few is asked by itself here, of fill_start and of test_cells: a struct for that one
+// fact would be made at each call.
 fn fill<F: Fn(Node) -> i32>(s: &[u8], cells: &mut [i32], given: F)
     requires s_bound { nodes s.now ≤ max_nodes }
     requires cells_len { length cells.old ≡ slots s.now }
