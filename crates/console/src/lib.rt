@@ -170,7 +170,8 @@ fn read_ints(bytes: &[u8], ints: &mut [i32])
 
 // The text.
 
-// An accepted sheet, with Check's answer.
+// An accepted sheet, with Check's answer. Its rows and its ticks are handed on side by side: where it has no columns, the rows do not tell how
+// many ticks there are.
 #[derive(Clone, Copy)]
 struct Accepted<'a> {
     s: &'a [u8],
