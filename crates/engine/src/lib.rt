@@ -130,7 +130,8 @@ fn fill_start(s: &[u8], cells: &mut [i32])
 // The work over an accepted sheet.
 
 // An accepted sheet with its tables. That a node is one of the sheet's is asked of each method, as in rules. The lengths of the lent slices
-// stand in the contracts: the contract of a tick names each lent slice by itself; a struct of &mut slices would hide them.
+// stand in the contracts: the contract of a tick names each lent slice by itself; a struct of &mut slices would hide them. `tables` is
+// copied into a local, as such fields are in rules.
 #[derive(Clone, Copy)]
 struct Accepted<'a> {
     s: &'a [u8],
@@ -357,7 +358,7 @@ fn test_cells(s: &[u8], cells: &[i32]) -> Result<(), Refusal>
     ensures { told result ≡ faults.cell_rule s.now cells.now }
 {
     // The slot is counted here. Tried: the FBYs' types as a chain with enumerate, whose invariant has to say how far the chain's range
-    // has come, and of each node that it left out that it has no slot.
+    // has come, and of each node that it left out that it has no slot, which is no plainer.
     let mut j = 0;
     for i in 0..sheet::nodes(s) as u16 {
         if let Kind::Fby(t) = sheet::kind_at(s, Node(i)) {

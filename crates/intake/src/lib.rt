@@ -30,7 +30,8 @@ pub fn read_full<R: io::Read>(from: &mut R, buf: &mut [u8]) -> io::Result<usize>
 }
 
 // A program that prints what `print` makes of its input: it reads as much as `input` holds, lends that and the room `text` to `print`, and
-// writes as many bytes of the room as `print` answers.
+// writes as many bytes of the room as `print` answers. The slices are lent, since what sheetrun, sheetlist and sheetread promise of one may not
+// change.
 pub fn filter<R: io::Read, W: io::Write, F: FnOnce(&[u8], &mut [u8]) -> usize>(
     from: &mut R,
     to: &mut W,

@@ -75,7 +75,7 @@ impl Marks {
         self.marks.get(usize::from(i)).copied().unwrap_or(false)
     }
 
-    // By index, since the contract of get_mut doesn't say what the slice holds after a write.
+    // By index. Tried: get_mut, whose contract doesn't say what the slice holds after a write.
     fn put(&mut self, i: Node)
         ensures { self.new.marks ≡ set self.old.marks i.0 true }
     {

@@ -253,7 +253,7 @@ pub fn sheet(text: &[u8]) -> Result<ArrayVec<u8, SHEET>, Refusal>
         .ok_or(Refusal::Text)
 }
 
-// The reader.
+// The reader. Into a lent room: an operation, whose clause may not change.
 pub fn read(text: &[u8], room: &mut [u8]) -> Result<usize, Refusal>
     ensures { Answers (reader_rules text.now (length room.old)) (telling.sheet_told text.now) room.old room.new result }
 {

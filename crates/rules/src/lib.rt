@@ -115,7 +115,7 @@ fn untyped() -> [ValueType; Sheet::NODES]
     [ValueType::Bool; Sheet::NODES]
 }
 
-// The slot of each FBY, and how many there are.
+// The slot of each FBY, and how many there are. The slot is counted beside the loop: each entry is the count so far, the answer the whole count.
 pub fn fill_slots(s: &[u8], table: &mut [u16; Sheet::NODES]) -> usize
     ensures { bytes.nodes s.now ≤ max_nodes → (result ≡ slots.slots s.now) × slots.Slotted s.now table.new }
 {
@@ -134,7 +134,7 @@ pub fn fill_slots(s: &[u8], table: &mut [u16; Sheet::NODES]) -> usize
 }
 
 // A sheet that passes rules 1 to 6, with the table of where each expression ends. A field that is a reference is copied into a local before
-// it is indexed or lent on as a slice.
+// it is indexed or lent on as a slice, which the check doesn't cover of the field itself.
 #[derive(Clone, Copy)]
 struct Tree<'a> {
     s: &'a [u8],
@@ -279,7 +279,7 @@ impl<'a> Tree<'a> {
         is_fby(self.kind(i)) && Sheet::SLOTS <= usize::from(table[usize::from(i)])
     }
 
-    // A rule over all nodes, where `breaks` tests one.
+    // A rule over all nodes, where `breaks` tests one. `rule` chooses no step: it only names the refusal.
     #[tactic(auto, using(sheet::proofs::RulingLaws::each_passes))]
     fn ruled<F: Fn(Node) -> bool>(self, rule: Rule, breaks: F) -> Result<(), Refusal>
         requires callable { (i : _) → i.0 < bytes.nodes self.s.now → F.pre breaks i }

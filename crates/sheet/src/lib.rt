@@ -300,7 +300,7 @@ fn number_of(a: u32) -> u16
     u16::try_from(a).unwrap_or(u16::MAX)
 }
 
-// The node that a VAR names.
+// The node that a VAR names. This and input_column are two functions, since nodes and columns are two of the four counts: a form of the project's.
 pub fn binder(s: &[u8], i: Node) -> Node
     ensures { bytes.argument s.now i.0 < 65536 → result.0 ≡ bytes.argument s.now i.0 }
 {
@@ -404,7 +404,8 @@ fn body(s: &[u8]) -> Result<(), Refusal>
     Ok(())
 }
 
-// Rule 5.
+// Rule 5. That the nodes are few is asked by itself, here and of shape: body has just tested it, and a struct for that one fact would be made at
+// each call.
 #[tactic(auto, using(crate::proofs::RulingLaws::each_passes), unfolding(crate::specs::Form::records))]
 fn records(s: &[u8]) -> Result<(), Refusal>
     requires { bytes.nodes s.now ≤ max_nodes }

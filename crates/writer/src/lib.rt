@@ -168,7 +168,7 @@ pub fn lists(s: &[u8], text: &[u8]) -> bool
     listing(s).is_ok_and(|own| own.as_slice() == text)
 }
 
-// The writer.
+// The writer. Into a lent room: an operation, whose clause may not change.
 pub fn write(s: &[u8], room: &mut [u8]) -> Result<usize, Refusal>
     ensures { Answers (writer_rules s.now (length room.old)) (text.listing s.now) room.old room.new result }
 {
