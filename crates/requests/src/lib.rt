@@ -162,22 +162,19 @@ fn read_request<R: io::Read>(from: &mut R) -> Result<Option<Request>, End> {
     }
 }
 
-// A slice of so many numbers, all one and the same, within the limit N.
-fn filled<T: Copy + Default, const N: usize>(count: u16, x: T) -> Result<ArrayVec<T, N>, End> {
-    let mut xs = ArrayVec::new();
-    for _ in 0..count {
-        xs.try_push(x).map_err(|_| End::BadRequest)?;
-    }
-    Ok(xs)
+// The first so many entries of a room, within its limit.
+fn first<T>(room: &mut [T], count: u16) -> Result<&mut [T], End> {
+    room.get_mut(..usize::from(count)).ok_or(End::BadRequest)
 }
 
-// A slice of so many numbers, read, within the limit N.
-fn read_slice<R: io::Read, T: Wire + Copy + Default, const N: usize>(
+// The first so many entries of a room, read.
+fn read_slice<'a, R: io::Read, T: Wire + Copy>(
     from: &mut R,
+    room: &'a mut [T],
     count: u16,
-) -> Result<ArrayVec<T, N>, End> {
-    let mut xs: ArrayVec<T, N> = filled(count, T::default())?;
-    for x in xs.as_mut_slice().iter_mut() {
+) -> Result<&'a mut [T], End> {
+    let xs = first(room, count)?;
+    for x in xs.iter_mut() {
         *x = T::read(from)?;
     }
     Ok(xs)
@@ -216,7 +213,7 @@ impl Entry for u8 {
 }
 
 // A lent slice: its name and its entries.
-fn say_slice<W: io::Write, T: Entry + Copy>(to: &mut W, name: &[u8], xs: &[T]) -> io::Result<()> {
+fn say_slice<W: io::Write, T: Entry + Copy>(to: &mut W, name: &[u8], xs: &[T]) -> Result<(), End> {
     let mut line = Line::new();
     text::put(&mut line, name);
     for x in xs {
@@ -228,17 +225,17 @@ fn say_slice<W: io::Write, T: Entry + Copy>(to: &mut W, name: &[u8], xs: &[T]) -
         }
     }
     text::put(&mut line, b"\n");
-    to.write_all(line.as_slice())
+    Ok(to.write_all(line.as_slice())?)
 }
 
 // The writer's room, as it stands.
-fn say_text<W: io::Write>(to: &mut W, text: &[u8]) -> io::Result<()> {
+fn say_text<W: io::Write>(to: &mut W, text: &[u8]) -> Result<(), End> {
     to.write_all(b"text")?;
     if !text.is_empty() {
         to.write_all(b" ")?;
         to.write_all(text)?;
     }
-    to.write_all(b"\n")
+    Ok(to.write_all(b"\n")?)
 }
 
 // An operation's answer: the line that `put` makes of it, or the refusal.
@@ -246,7 +243,7 @@ fn say<W: io::Write, T: Drop, F: FnOnce(&mut Line, T)>(
     to: &mut W,
     answer: Result<T, Refusal>,
     put: F,
-) -> io::Result<()>
+) -> Result<(), End>
     requires { F.IsAlwaysCallable put }
 {
     let mut line = Line::new();
@@ -254,7 +251,7 @@ fn say<W: io::Write, T: Drop, F: FnOnce(&mut Line, T)>(
         Ok(x) => put(&mut line, x),
         Err(r) => words::put_refusal(&mut line, r),
     }
-    to.write_all(line.as_slice())
+    Ok(to.write_all(line.as_slice())?)
 }
 
 fn put_done(line: &mut Line, _done: ()) {
@@ -277,87 +274,97 @@ fn put_answer(line: &mut Line, a: Answer) {
     text::put(line, b"\n");
 }
 
-// The operations.
+// The operations. Each reads the slices that it uses besides the sheet, in room of its own, and lends them.
 
-fn check<W: io::Write>(to: &mut W, s: &[u8]) -> io::Result<()> {
+fn check<W: io::Write>(to: &mut W, s: &[u8]) -> Result<(), End> {
     say(to, rules::check(s), |line, z| console::put_ok(line, z))
 }
 
-fn house<W: io::Write>(to: &mut W, s: &[u8], order: &mut [u16]) -> io::Result<()> {
+fn house<R: io::Read, W: io::Write>(
+    from: &mut R,
+    to: &mut W,
+    s: &[u8],
+    r: Request,
+) -> Result<(), End> {
+    let mut order = [0; Request::ORDER];
+    let order = read_slice(from, &mut order, r.order)?;
     say(to, order::house_order(s, order), put_done)?;
     say_slice(to, b"order", order)
 }
 
-fn start<W: io::Write>(to: &mut W, s: &[u8], cells: &mut [i32]) -> io::Result<()> {
+fn start<R: io::Read, W: io::Write>(
+    from: &mut R,
+    to: &mut W,
+    s: &[u8],
+    r: Request,
+) -> Result<(), End> {
+    let mut cells = [0; Request::CELLS];
+    let cells = read_slice(from, &mut cells, r.cells)?;
     say(to, engine::start(s, cells), put_done)?;
     say_slice(to, b"cells", cells)
 }
 
-fn tick<W: io::Write>(
+fn tick<R: io::Read, W: io::Write>(
+    from: &mut R,
     to: &mut W,
     s: &[u8],
-    row: &[i32],
-    cells: &mut [i32],
-    order: &[u16],
-    values: &mut [i32],
-) -> io::Result<()> {
+    r: Request,
+) -> Result<(), End> {
+    let mut row = [0; Request::ROWS];
+    let mut cells = [0; Request::CELLS];
+    let mut order = [0; Request::ORDER];
+    let mut values = [INT_FILL; Request::OUT];
+    let row = read_slice(from, &mut row, r.rows)?;
+    let cells = read_slice(from, &mut cells, r.cells)?;
+    let order = read_slice(from, &mut order, r.order)?;
+    let values = first(&mut values, r.out)?;
     say(to, engine::tick(s, row, cells, order, values), put_answer)?;
     say_slice(to, b"cells", cells)?;
     say_slice(to, b"values", values)
 }
 
-fn run<W: io::Write>(to: &mut W, s: &[u8], rows: &[i32], outputs: &mut [i32]) -> io::Result<()> {
+fn run<R: io::Read, W: io::Write>(
+    from: &mut R,
+    to: &mut W,
+    s: &[u8],
+    r: Request,
+) -> Result<(), End> {
+    let mut rows = [0; Request::ROWS];
+    let mut outputs = [INT_FILL; Request::OUT];
+    let rows = read_slice(from, &mut rows, r.rows)?;
+    let outputs = first(&mut outputs, r.out)?;
     say(to, engine::run(s, rows, outputs), put_count)?;
     say_slice(to, b"outputs", outputs)
 }
 
-fn write<W: io::Write>(to: &mut W, s: &[u8], room: &mut [u8]) -> io::Result<()> {
+fn write<W: io::Write>(to: &mut W, s: &[u8], r: Request) -> Result<(), End> {
+    let mut room = [TEXT_FILL; Request::OUT];
+    let room = first(&mut room, r.out)?;
     say(to, writer::write(s, room), put_count)?;
     say_text(to, room)
 }
 
-fn read<W: io::Write>(to: &mut W, text: &[u8], room: &mut [u8]) -> io::Result<()> {
+fn read<W: io::Write>(to: &mut W, text: &[u8], r: Request) -> Result<(), End> {
+    let mut room = [BYTE_FILL; Request::OUT];
+    let room = first(&mut room, r.out)?;
     say(to, reader::read(text, room), put_count)?;
     say_slice(to, b"bytes", room)
 }
 
 // The rest of a request, and what its operation answers.
 fn serve<R: io::Read, W: io::Write>(from: &mut R, to: &mut W, r: Request) -> Result<(), End> {
-    let mut sheet: ArrayVec<u8, { Request::SHEET }> = filled(r.sheet, 0)?;
-    fill(from, sheet.as_mut_slice())?;
-    let rows: ArrayVec<i32, { Request::ROWS }> = read_slice(from, r.rows)?;
-    let mut cells: ArrayVec<i32, { Request::CELLS }> = read_slice(from, r.cells)?;
-    let mut order: ArrayVec<u16, { Request::ORDER }> = read_slice(from, r.order)?;
-    let s = sheet.as_slice();
+    let mut sheet = [0; Request::SHEET];
+    let s = first(&mut sheet, r.sheet)?;
+    fill(from, s)?;
     match r.operation {
-        Operation::Check => check(to, s)?,
-        Operation::House => house(to, s, order.as_mut_slice())?,
-        Operation::Start => start(to, s, cells.as_mut_slice())?,
-        Operation::Tick => {
-            let mut values: ArrayVec<i32, { Request::OUT }> = filled(r.out, INT_FILL)?;
-            tick(
-                to,
-                s,
-                rows.as_slice(),
-                cells.as_mut_slice(),
-                order.as_slice(),
-                values.as_mut_slice(),
-            )?;
-        }
-        Operation::Run => {
-            let mut outputs: ArrayVec<i32, { Request::OUT }> = filled(r.out, INT_FILL)?;
-            run(to, s, rows.as_slice(), outputs.as_mut_slice())?;
-        }
-        Operation::Write => {
-            let mut room: ArrayVec<u8, { Request::OUT }> = filled(r.out, TEXT_FILL)?;
-            write(to, s, room.as_mut_slice())?;
-        }
-        Operation::Read => {
-            let mut room: ArrayVec<u8, { Request::OUT }> = filled(r.out, BYTE_FILL)?;
-            read(to, s, room.as_mut_slice())?;
-        }
+        Operation::Check => check(to, s),
+        Operation::House => house(from, to, s, r),
+        Operation::Start => start(from, to, s, r),
+        Operation::Tick => tick(from, to, s, r),
+        Operation::Run => run(from, to, s, r),
+        Operation::Write => write(to, s, r),
+        Operation::Read => read(to, s, r),
     }
-    Ok(())
 }
 
 // All requests, as far as they can be served. A proved loop has to end: this one has so many turns that no input uses them up.

@@ -6,7 +6,7 @@ use std::io;
 fn main(rt: HostRuntime) -> io::Result<()> {
     intake::filter(
         &mut rt.stdin(),
-        &mut rt.stdout(),
+        &mut io::writer(&rt),
         &mut [0; 65536],
         &mut exchange::room(),
         exchange::sheetread,

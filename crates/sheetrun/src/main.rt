@@ -7,7 +7,7 @@ use std::io;
 fn main(rt: HostRuntime) -> io::Result<()> {
     intake::filter(
         &mut rt.stdin(),
-        &mut rt.stdout(),
+        &mut io::writer(&rt),
         &mut Input::bytes(),
         &mut Input::text(),
         console::sheetrun,

@@ -25,6 +25,7 @@ fn next<R: io::Read>(from: &mut R, input: &mut [u8]) -> io::Result<Option<usize>
 // A proved loop has to end: this one has so many turns that no input uses them up.
 fn main(rt: HostRuntime) -> io::Result<()> {
     let mut from = rt.stdin();
+    let mut to = rt.stdout();
     let mut input = [0; 65536];
     for _ in 0..u64::MAX {
         let Some(n) = next(&mut from, &mut input)? else {
@@ -32,7 +33,7 @@ fn main(rt: HostRuntime) -> io::Result<()> {
         };
         let mut text = Input::text();
         let r = console::sheetrun(&input[..n], &mut text);
-        rt.write_all(&text[..r])?;
+        io::Write::write_all(&mut to, &text[..r])?;
     }
     Ok(())
 }
