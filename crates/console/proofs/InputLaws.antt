@@ -1,15 +1,19 @@
--- Laws of an input: the rules that it is tried by, and that what is printed of it is one text.
-use Prim.Native.Nat.{ℕ, zero, suc, ◌+◌, ◌*◌, ◌/◌, ◌%◌, ◌≤◌, ◌<◌}
-use mathlib.Core.Path.{◌≡◌, refl, sym, ◌∙◌}
+-- Laws of an input: how it is cut, the rules that it is tried by, the ints of its rows, and that what is printed of it is one text.
+use Prim.Native.Nat.{ℕ, zero, suc, ◌+◌, ◌-◌, ◌*◌, ◌/◌, ◌%◌, ◌≤◌, ◌<◌, min}
+use mathlib.Core.Path.{◌≡◌, refl, sym, ap, ◌∙◌}
 use mathlib.Core.Bool.{Bool, true, false}
-use mathlib.Core.List.{List}
+use mathlib.Core.List.{List, ◌++◌}
 use native.Mathlib.Nat.{mul-le-mul_right, mul_comm, mul_assoc, div-add-mod'}
 use native.Mathlib.Omega.{arith}
+use lib.Dec.{ltb}
 use lib.IntN.{ℤ}
-use lib.ListN.{length}
-use borrow.Author.Tests.{lt-ltb, le-ltb, not-false, eqb-true}
+use lib.ListN.{length, take, drop, length-append, length-drop, drop_of_length-le}
+use lib.Seq.{take_at, take_all}
+use borrow.Author.Tests.{ltb-true, ltb-false, lt-ltb, le-ltb, not-false, eqb-true}
+use Rattle.finite.proofs.Tests.{by-test}
+use Rattle.finite.proofs.GatherLaws.{length_gather_all}
 use Rattle.sheet.specs.Ruling.{Ruling, passed, refused, rule, ◌then◌, accepted, turned}
-use Rattle.sheet.specs.Bytes.{columns}
+use Rattle.sheet.specs.Bytes.{stated, columns}
 use Rattle.sheet.specs.declared.Sheet.{Sheet}
 use Rattle.sheet.proofs.RulingLaws.{then_passed}
 use Rattle.rules.specs.Check.{check, Sound}
@@ -18,9 +22,26 @@ use Rattle.engine.specs.Rows.{row_rule, row_at}
 use Rattle.engine.specs.Operations.{max_rows}
 use Rattle.engine.proofs.Demands.{meaning}
 use Rattle.console.specs.declared.Accepted.{Accepted}
-use Rattle.console.specs.Sheetrun.{max_input, sheet_in, rest, ints, broken_rows, rows_in, ticks_by, ticks, rest_rules, input_rules, PrintedBy, Printed}
+use Rattle.console.specs.Sheetrun.{max_input, sheet_in, rest, int_at, ints, broken_rows, rows_in, ticks_by, ticks, rest_rules, input_rules, PrintedBy, Printed}
 use Rattle.console.specs.Printing.{max_ints}
 use Rattle.console.proofs.AcceptedLaws.{columns_are}
+
+-- ---- the ints of the rows
+
+-- the ints, read into the first part of an array
+length-ints : (bytes : List ℕ) → length (ints bytes) ≡ length bytes / 4
+unfolding ints
+length-ints bytes = length_gather_all (int_at bytes) (length bytes / 4)
+
+module _ (bytes : List ℕ) {new : List ℤ} (old : List ℤ) (e : new ≡ ints bytes) where
+  pub ints_kept : length bytes / 4 ≤ length (new ++ drop (length bytes / 4) old)
+  ints_kept = rw (length-append, e, length-ints) (omega arith)
+
+  pub ints_read : take (length bytes / 4) (new ++ drop (length bytes / 4) old) ≡ ints bytes
+  ints_read = rw e (take_at (ints bytes) (drop (length bytes / 4) old) (length bytes / 4) (length-ints bytes))
+
+  pub ints-length : length (take (length bytes / 4) (new ++ drop (length bytes / 4) old)) ≡ length bytes / 4
+  ints-length = ap length ints_read ∙ length-ints bytes
 
 -- ---- the bytes after an accepted sheet
 
@@ -57,6 +78,24 @@ module _ (a : Accepted) (after : List ℕ) {broken : Bool} (h : broken ≡ broke
 -- ---- the input
 
 module _ (input : List ℕ) where
+  module _ {cut : ℕ} (e : cut ≡ min (stated input) (length input)) where
+    pub cut_sheet : take cut input ≡ sheet_in input
+    unfolding sheet_in
+    cut_sheet =
+        by-test (ltb (stated input) (length input))
+        (λ t. let l = ltb-true (stated input) (length input) t in let q : cut ≡ stated input = omega arith in rw q)
+        (λ f. let l = ltb-false (stated input) (length input) f in take_all cut input (omega arith) ∙ sym (take_all (stated input) input l))
+
+    pub cut_rest : take (length input - cut) (drop cut input) ≡ rest input
+    unfolding rest
+    cut_rest =
+        take_all (length input - cut) (drop cut input) (rw length-drop (omega arith))
+        ∙ by-test (ltb (stated input) (length input))
+        (λ t. let l = ltb-true (stated input) (length input) t in let q : cut ≡ stated input = omega arith in rw q)
+        (λ f.
+        let l = ltb-false (stated input) (length input) f in
+        drop_of_length-le input {i = cut} (omega arith) ∙ sym (drop_of_length-le input {i = stated input} l))
+
   pub input_over : max_input < length input → refused 1 0 ≡ input_rules input
   unfolding input_rules rule ◌then◌
   input_over l = rw (lt-ltb max_input (length input) l)

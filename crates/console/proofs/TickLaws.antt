@@ -12,9 +12,11 @@ use borrow.Author.Tests.{le-ltb, eq-eqb}
 use Rattle.finite.specs.Lists.{joined}
 use Rattle.text.specs.Text.{Adds}
 use Rattle.text.proofs.TextLaws.{append_first, append_then, append_next, append_none}
-use Rattle.sheet.specs.Ruling.{passed, refused, rule, ◌then◌, told, said, turned}
+use Rattle.sheet.specs.Ruling.{passed, refused, rule, ◌then◌, told, said, turned, number_of, place_of}
 use Rattle.sheet.specs.Bytes.{nodes, columns}
 use Rattle.sheet.specs.declared.Refusal.{Refusal}
+use Rattle.rules.specs.Check.{Sound}
+use Rattle.rules.proofs.CheckLaws.{rules_exactly}
 use Rattle.order.specs.Orders.{RightOrder}
 use Rattle.meaning.specs.Equations.{Means}
 use Rattle.meaning.specs.Cells.{start_cells}
@@ -29,9 +31,12 @@ use Rattle.console.specs.declared.Accepted.{Accepted}
 use Rattle.console.specs.Sheetrun.{ok_line, tick_line, tick_lines, PrintedBy, max_output}
 use Rattle.console.specs.Printing.{max_line, LinesPut, TicksPut}
 use Rattle.console.proofs.LineLaws.{ok_length}
-use Rattle.console.proofs.AcceptedLaws.{accepted, sound, nodes_are, columns_are, slots_are, root_is}
+use Rattle.console.proofs.AcceptedLaws.{sound, nodes_are, columns_are, slots_are, root_is}
 
 -- ---- the ticks
+
+pub run_sound : {s : List ℕ} (rows : List ℤ) (T : ℕ) → run_rules s rows T ≡ passed → Sound s
+run_sound {s} rows T p = ((run_exactly s rows T).0 p).0
 
 row_wide : (s : List ℕ) (rows : List ℤ) (T : ℕ) {t : ℕ} → length rows ≡ T * columns s → t < T → length (row_at s rows t) ≡ columns s
 unfolding row_at
@@ -60,6 +65,11 @@ module _ {s : List ℕ} {rows : List ℤ} {T : ℕ} (p : run_rules s rows T ≡ 
   tick_answers =
       let (X, m, one) = meaning ((run_exactly s rows T).0 p).0 (row_at s rows) in (_, (meant X m).answer)
 
+  pub tick_done : {x : Refusal} → r ≡ Err x → ⊥
+  tick_done x =
+      let (a, answered) = tick_answers in
+      let z : ◌≡◌ {A = ℕ} 0 1 = cc answered in omega arith
+
   -- one more, with its line
   pub ticks_more : {a : Answer} {last : List ℕ} → r ≡ Ok a → Adds max_output (tick_line t a.root a.lowest) after last →
       length (tick_line t a.root a.lowest) ≤ max_line → TicksPut s rows (t + 1) cells' values' before last
@@ -84,10 +94,35 @@ module _ {s : List ℕ} {rows : List ℤ} {T : ℕ} (p : run_rules s rows T ≡ 
 
 -- ---- a run
 
--- of an accepted sheet and whole rows, not too many, a run tries rule 13 alone
-pub run_rows : (a : Accepted) (rows : List ℤ) (T : ℕ) → (length rows ≡ T * columns a.s.now) × (T ≤ max_rows) → run_rules a.s.now rows T ≡ row_rule a.s.now rows
+-- of a sound sheet and whole rows, not too many, a run tries rule 13 alone
+pub sound_rows : {s : List ℕ} → Sound s → (rows : List ℤ) (T : ℕ) → length rows ≡ T * columns s → T ≤ max_rows → run_rules s rows T ≡ row_rule s rows
 unfolding run_rules run_tests rule ◌then◌
-run_rows a rows T h = rw (accepted a, eq-eqb (length rows) (T * columns a.s.now) h.0, le-ltb max_rows T h.1)
+sound_rows {s} z rows T whole few = rw ((rules_exactly s).1 z, eq-eqb (length rows) (T * columns s) whole, le-ltb max_rows T few)
+
+pub run_rows : (a : Accepted) (rows : List ℤ) (T : ℕ) → (length rows ≡ T * columns a.s.now) × (T ≤ max_rows) → run_rules a.s.now rows T ≡ row_rule a.s.now rows
+run_rows a rows T h = sound_rows (sound a) rows T h.0 h.1
+
+module _ {s : List ℕ} (z : Sound s) {rows old : List ℤ} {r : Result ℕ Refusal} {new : List ℤ} (k : Run s rows old r new)
+    (T : ℕ) (n : length old ≡ T) (whole : length rows ≡ T * columns s) (few : T ≤ max_rows) where
+  told_run : run_rules s rows (length old) ≡ row_rule s rows
+  told_run = rw n (sound_rows z rows T whole few)
+
+  -- a run that is finished passed its rules
+  pub run_passed : {failing : ℕ} → r ≡ Ok failing → row_rule s rows ≡ passed
+  run_passed e =
+      by-ruling (row_rule s rows) (λ p. p)
+      (λ number place q. let c : ◌≡◌ {A = ℕ} 0 1 = cc (refused_run k number place (told_run ∙ q)).0 in absurd (omega arith))
+
+  -- and one that is refused broke rule 13
+  pub run_refused : {x : Refusal} → r ≡ Err x → row_rule s rows ≡ refused (number_of x) (place_of x)
+  run_refused {x} e =
+      by-ruling (row_rule s rows)
+      (λ p.
+      let (X, m, one) = meaning z (row_at s rows) in
+      let c : ◌≡◌ {A = ℕ} 0 1 = cc (run_values k (told_run ∙ p) X m).0 in absurd (omega arith))
+      (λ number place q.
+      let t : said {A = ℕ} (Err x) ≡ turned number place = rw e at (refused_run k number place (told_run ∙ q)).0 in
+      q ∙ cc)
 
 -- what an answer's refusal is told
 turned_told : {A : Type 0} (r : Result A Refusal) (number place : ℕ) → said r ≡ turned number place → told r ≡ refused number place

@@ -1,6 +1,7 @@
--- Laws that several functions' proofs cite: the nodes that fail, and what needs of an accepted sheet are looked up by.
-use Prim.Native.Nat.{ℕ, ◌+◌, ◌≤◌, ◌<◌}
-use mathlib.Core.Path.{◌≡◌}
+-- Laws that several functions' proofs cite: a rule that is tried place by place, the nodes that fail, and what needs of an accepted sheet are
+-- looked up by.
+use Prim.Native.Nat.{ℕ, ◌+◌, ◌-◌, ◌≤◌, ◌<◌}
+use mathlib.Core.Path.{◌≡◌, ◌∙◌}
 use mathlib.Core.Bool.{Bool, true, false, not}
 use mathlib.Core.List.{List}
 use native.Mathlib.Omega.{arith}
@@ -9,12 +10,14 @@ use lib.ListN.{length, get_or, set, take}
 use borrow.Author.Tests.{ltb-true, lt-ltb, le-ltb, not-false}
 use denote.Enum.Bare.{sameb}
 use Rattle.std.proofs.Common.{Some, None, zero-le}
-use Rattle.finite.proofs.LowestLaws.{lowest-is, lowest_none}
+use Rattle.finite.specs.Lowest.{lowest}
+use Rattle.finite.proofs.LowestLaws.{lowest_here, lowest-end, lowest-is, lowest_none}
 use Rattle.table.specs.Equations.{at, work}
 use Rattle.table.proofs.TickLaws.{work-more}
 use Rattle.sheet.specs.Ceilings.{max_nodes}
 use Rattle.sheet.specs.Bytes.{nodes, columns, kind_at, argument, arity, operand, operand_by}
 use Rattle.sheet.specs.Form.{known, bad_record}
+use Rattle.sheet.specs.Ruling.{passed, refused, rule, each}
 use Rattle.sheet.specs.declared.Kind.TheVariants.{Input}
 use Rattle.sheet.proofs.RulingLaws.{passes_is}
 use Rattle.sheet.proofs.SheetLaws.{operand_by_table}
@@ -27,6 +30,19 @@ use Rattle.meaning.specs.declared.Verdict.TheVariants.{Pass}
 use Rattle.meaning.specs.contracts.Verdict.{the_type}
 use Rattle.meaning.proofs.VerdictLaws.{is_pass-same}
 use Rattle.engine.specs.declared.Accepted.{Accepted}
+
+-- of the places below count, none before i breaks the rule
+abbrev pub Tried : (ℕ → Bool) → (count i : ℕ) → Type 0
+Tried breaks count i = lowest breaks 0 count ≡ lowest breaks i (count - i)
+
+module _ (number : ℕ) (breaks : ℕ → Bool) (count i : ℕ) (tried : Tried breaks count i) where
+  pub refused_here : i < count → breaks i ≡ true → refused number i ≡ each number breaks 0 count
+  unfolding each rule
+  refused_here l b = rw (tried ∙ lowest_here breaks i count l b, lt-ltb i (0 + count) (omega arith))
+
+  pub passed-all : count ≤ i → passed ≡ each number breaks 0 count
+  unfolding each rule
+  passed-all l = rw (tried ∙ lowest-end breaks i count l, le-ltb i (0 + count) (omega arith))
 
 -- a node fails, by a list of values; and what is found of it
 abbrev pub fails : (s : List ℕ) (values : List ℤ) → ℕ → Bool

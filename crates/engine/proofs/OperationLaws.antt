@@ -7,12 +7,14 @@ use native.Mathlib.Omega.{arith}
 use Rattle.std.proofs.Common.{Result, Ok, Err}
 use lib.IntN.{ℤ, pos}
 use lib.ListN.{length}
+use borrow.Author.Tests.{ne_eqb}
 use Rattle.table.specs.Equations.{at}
 use Rattle.sheet.specs.Ceilings.{max_nodes, max_slots}
-use Rattle.sheet.specs.Ruling.{Ruling, passed, refused, passes, lent, ◌then◌, at_end, answer, accepted, turned, number_of, place_of}
+use Rattle.sheet.specs.Ruling.{Ruling, passed, refused, passes, rule, lent, ◌then◌, at_end, answer, accepted, turned, number_of, place_of}
 use Rattle.sheet.specs.Bytes.{nodes}
 use Rattle.sheet.specs.declared.Sheet.{Sheet}
 use Rattle.sheet.specs.declared.Refusal.{Refusal}
+use Rattle.sheet.specs.declared.Refusal.TheVariants.{Lent as WrongLength}
 use Rattle.sheet.specs.declared.Lent.TheVariants.{Cells}
 use Rattle.rules.specs.Slots.{slots}
 use Rattle.rules.specs.Check.{rules, sheet, check, Sound, Tables}
@@ -79,6 +81,10 @@ module _ (s : List ℕ) (old : List ℤ) where
     pub start_turned : (r : Refusal) → refused (number_of r) (place_of r) ≡ lent Cells (length old) z.slots → Start s old (Err r) old
     unfolding start_rules at_end
     start_turned r t = let q = sized ∙ sym t in record { answer = rw q; cells = rw q }
+
+    pub start-lent : (length old ≡ z.slots → ⊥) → Start s old (Err (WrongLength Cells)) old
+    unfolding rule
+    start-lent n = start_turned (WrongLength Cells) (rw (ne_eqb (length old) z.slots n))
 
     pub start_done : passed ≡ lent Cells (length old) z.slots → (new : List ℤ) → new ≡ start_cells s → Start s old (Ok tt) new
     unfolding start_rules at_end

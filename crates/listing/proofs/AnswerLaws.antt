@@ -1,6 +1,6 @@
 -- What an answer of the writer or the reader tells; and two results that their contracts allow are one and the same, the answer and the end
 -- contents of the lent room.
-use Rattle.std.proofs.Common.{◌≡◌, ℕ, List, Result, Ok, Err, length, take, refl, sym, ◌∙◌}
+use Rattle.std.proofs.Common.{◌≡◌, ℕ, List, ◌++◌, Result, Ok, Err, length, take, drop, refl, sym, ◌∙◌}
 use lib.Seq.{take_at}
 use Rattle.sheet.specs.Ruling.{Ruling, passed, refused, at_end, number_of, place_of}
 use Rattle.sheet.specs.declared.Refusal.{Refusal}
@@ -19,10 +19,12 @@ module _ {rules : Ruling} {result before after : List ℕ} where
       let turned_by : rules ≡ refused (number_of q) (place_of q) = answer-turned rules (length result) (number_of q) (place_of q) k.answers in
       (turned_by, k.room ∙ rw turned_by refl)
 
-  -- a length is the result's, which the room begins with
-  pub listed_length : {n : ℕ} → Answers rules result before after (Ok n) → (rules ≡ passed) × (take n after ≡ result)
+  -- a length is the result's, which the room begins with; after it the room is as it was
+  pub listed_length : {n : ℕ} → Answers rules result before after (Ok n)
+      → (rules ≡ passed) × (take n after ≡ result) × (after ≡ result ++ drop (length result) before) × (n ≡ length result)
   unfolding at_end
   listed_length {n} k =
       let by = (answer-accepted rules (length result) n).0 (sym k.answers) in
       let all : rules ≡ passed = by.0 in
-      (all, rw (k.room, all) (take_at result _ n by.1))
+      let contents : after ≡ result ++ drop (length result) before = k.room ∙ rw all refl in
+      (all, rw contents (take_at result _ n by.1), contents, sym by.1)

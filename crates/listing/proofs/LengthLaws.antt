@@ -45,6 +45,19 @@ operator_length Div = omega arith
 operator_length Neg = omega arith
 operator_length Mod = omega arith
 
+pub name-length : (k : Kind) → length (name k) ≤ 8
+unfolding name
+name-length (Const t) = omega arith
+name-length Input = omega arith
+name-length Var = omega arith
+name-length (Op o) = omega (arith, operator_length o)
+name-length (Fby t) = omega arith
+name-length (Rec t) = omega arith
+name-length Let = omega arith
+name-length Check = omega arith
+name-length Contract = omega arith
+name-length Unknown = omega arith
+
 constant-length : (t : ValueType) (a : ℕ) → a < 4294967296 → length (constant t a) ≤ 11
 constant-length bool zero l = omega arith
 constant-length bool (suc a) l = omega arith

@@ -1,7 +1,7 @@
--- What functions' proofs cite: what `operand` answers by a table of a sound sheet's ends, the needs of a node by the marks, and the house order
--- and an order under test, part by part.
+-- What functions' proofs cite: what `operand` answers by a table of a sound sheet's ends, a node's needs one by one and by the marks, and the
+-- house order and an order under test, part by part.
 use Prim.Native.Nat.{ℕ, ◌+◌, ◌≤◌, ◌<◌}
-use mathlib.Core.Path.{◌≡◌, ap, ◌∙◌}
+use mathlib.Core.Path.{◌≡◌, sym, ap, ◌∙◌}
 use mathlib.Core.Logic.{◌↔◌}
 use mathlib.Core.Bool.{Bool, true, false, not, ◌&&◌}
 use mathlib.Core.List.{List, ◌++◌}
@@ -20,13 +20,26 @@ use Rattle.table.specs.Order.{ready, house_part, misplaced}
 use Rattle.table.proofs.OrderLaws.{fit_by}
 use Rattle.sheet.specs.Ceilings.{max_nodes}
 use Rattle.sheet.specs.Bytes.{nodes, kind_at, arity, operand, operand_by}
+use Rattle.sheet.specs.declared.Kind.{Kind}
 use Rattle.sheet.proofs.SheetLaws.{operand_by_table}
 use Rattle.order.specs.Needs.{needs, need_count, Met, Given}
-use Rattle.order.proofs.NeedsLaws.{needs-count}
+use Rattle.order.proofs.NeedsLaws.{need_by, needs-count, need_at}
 
 -- what the function `operand` answers is the operand
 pub operand_is : (s ends : List ℕ) → Given s ends → (i k : ℕ) → i < nodes s → k < arity (kind_at s i) → operand_by ends i k ≡ operand s i k
 operand_is s ends g i k h l = operand_by_table g.sound.formed ends g.ends i h k l
+
+-- need k of a node of a kind, and where it is operand m
+module _ {s ends : List ℕ} (g : Given s ends) (i : ℕ) (h : i < nodes s) where
+  module _ (kind : Kind) (e : kind_at s i ≡ kind) where
+    pub need_is : (k r : ℕ) → k < need_count (kind_at s i) → r ≡ need_by s i kind k → r ≡ get_or (needs s i) k 0
+    unfolding needs
+    need_is k r l found = found ∙ rw (← e) (sym (need_at s i (kind_at s i) k l))
+
+    pub own_need : (k m r : ℕ) → operand s i m ≡ need_by s i kind k → m < arity kind → k < need_count (kind_at s i)
+        → (i < max_nodes → r ≡ operand_by ends i m) → r ≡ get_or (needs s i) k 0
+    own_need k m r q l n found =
+        need_is k r n (found (omega (arith, g.sound.formed.few)) ∙ operand_is s ends g i m h (rw e l) ∙ q)
 
 -- the marks as a test of numbers
 abbrev pub mark : List Bool → ℕ → Bool

@@ -12,7 +12,7 @@ use borrow.Author.Tests.{ltb-true, lt-ltb, le-ltb}
 use Rattle.finite.specs.Lowest.{lowest}
 use Rattle.finite.proofs.Tests.{by-test, not-both, fails, and_l, and_r, and_both, and_not_r}
 use Rattle.finite.proofs.LowestLaws.{lowest-passes, lowest_least}
-use Rattle.finite.proofs.CountLaws.{count_imp, count-more}
+use Rattle.finite.proofs.CountLaws.{count_le, count_imp, count-more}
 use Rattle.sheet.specs.Bytes.{nodes, kind_at, arity, arity_at, is_fby, operand, above, end_of}
 use Rattle.sheet.specs.Form.{Formed}
 use Rattle.sheet.specs.declared.Kind.{Kind}
@@ -61,6 +61,10 @@ module _ (s : List ℕ) where
   pub over_first : (p : ℕ → Bool) → over s p 0 ≡ 0
   unfolding over
   over_first = over_root s
+
+  pub over_most : (p : ℕ → Bool) (i : ℕ) → over s p i ≤ nodes s
+  unfolding over
+  over_most p i = count_le (λ a. p a && above s a i) (nodes s)
 
   -- what stands above b stands above what b stands above, and what stands between is one more
   module _ (p : ℕ → Bool) where

@@ -1,2 +1,3 @@
--- Laws of the table of closings.
+-- Laws of the table of closings, and of what the writer answers.
 pub mod ClosingLaws
+pub mod WriterLaws
