@@ -12,11 +12,11 @@ use borrow.Author.Tests.{le-ltb, ltb-false, not-false}
 use Rattle.finite.proofs.ListLaws.{write_length}
 use Rattle.text.specs.Text.{feed, Holds, Appends, Puts, Prints}
 use Rattle.text.proofs.LentLaws.{holds_text, is_word, prints}
-use Rattle.sheet.specs.Ruling.{Ruling, passed, refused, number_of, place_of, at_end, ◌then◌}
+use Rattle.sheet.specs.Ruling.{Ruling, passed, refused, number_of, place_of, ◌then◌}
 use Rattle.sheet.specs.Bytes.{byte}
 use Rattle.sheet.specs.Form.{form, Formed}
 use Rattle.sheet.specs.declared.Refusal.{Refusal}
-use Rattle.sheet.proofs.RulingLaws.{rule-passed, then_passed, answer-accepted}
+use Rattle.sheet.proofs.RulingLaws.{rule-passed, then_passed}
 use Rattle.sheet.proofs.FormLaws.{form_iff}
 use Rattle.words.specs.Words.{refused_line}
 use Rattle.listing.specs.Listing.{listing, max_text}
@@ -25,7 +25,7 @@ use Rattle.listing.specs.Answers.{is_bytes, is_listing, text_rule, Answers, room
 use Rattle.listing.proofs.LengthLaws.{argument_small, listing_length_by}
 use Rattle.listing.proofs.ListsLaws.{lists_iff, formed-length}
 use Rattle.listing.proofs.Listings.{told_exactly}
-use Rattle.listing.proofs.AnswerLaws.{listed_refused}
+use Rattle.listing.proofs.AnswerLaws.{listed_refused, listed_held}
 use Rattle.exchange.specs.Exchange.{printed_by, sheetlist, text_in, sheetread, max_printed}
 
 -- what is printed of a result, and of a refusal
@@ -43,14 +43,6 @@ first_refuses : (first last : Ruling) (number place : ℕ) → (first ≡ passed
 unfolding ◌then◌
 first_refuses passed last number place passes e = sym (passes refl) ∙ e
 first_refuses (refused n p) last number place passes e = e
-
--- a length is the result's, which the room holds
-listed_held : {rules : Ruling} {result before after : List ℕ} {n : ℕ} → Answers rules result before after (Ok n) → (rules ≡ passed) × Holds result before after n
-unfolding at_end
-listed_held {rules} {result} {n = n} k =
-    let by = (answer-accepted rules (length result) n).0 (sym k.answers) in
-    let all : rules ≡ passed = by.0 in
-    (all, record { contents = k.room ∙ rw all refl; count = sym by.1 })
 
 module _ {first : Ruling} {result before between : List ℕ} (short : first ≡ passed → length result ≤ max_text) where
   pub prints_refusal : {q : Refusal} → Answers (first then room_rule (length before) result) result before between (Err q) → {after : List ℕ} {r : ℕ} →

@@ -2,6 +2,7 @@
 -- contents of the lent room.
 use Rattle.std.proofs.Common.{◌≡◌, ℕ, List, Result, Ok, Err, length, take, refl, sym, ◌∙◌}
 use lib.Seq.{take_at}
+use Rattle.text.specs.Text.{Holds}
 use Rattle.sheet.specs.Ruling.{Ruling, passed, refused, at_end, number_of, place_of}
 use Rattle.sheet.specs.declared.Refusal.{Refusal}
 use Rattle.sheet.proofs.RulingLaws.{answer-accepted, answer-turned, one_said}
@@ -26,3 +27,11 @@ module _ {rules : Ruling} {result before after : List ℕ} where
       let by = (answer-accepted rules (length result) n).0 (sym k.answers) in
       let all : rules ≡ passed = by.0 in
       (all, rw (k.room, all) (take_at result _ n by.1))
+
+  -- which it holds, with what was there of old after it
+  pub listed_held : {n : ℕ} → Answers rules result before after (Ok n) → (rules ≡ passed) × Holds result before after n
+  unfolding at_end
+  listed_held {n} k =
+      let by = (answer-accepted rules (length result) n).0 (sym k.answers) in
+      let all : rules ≡ passed = by.0 in
+      (all, record { contents = k.room ∙ rw all refl; count = sym by.1 })
