@@ -1,26 +1,32 @@
--- What is printed by a ruling, how long a listing and a told sheet are; and sheetlist and sheetread, one after the other.
+-- What is printed of the writer's and the reader's answers, where the first of their rules are those of the sheet or the text and the last is
+-- that of the room; and sheetlist and sheetread, one after the other.
 use Prim.Native.Nat.{ℕ, ◌-◌, ◌≤◌, ◌<◌}
-use mathlib.Core.Path.{◌≡◌, refl, ap}
+use mathlib.Core.Path.{◌≡◌, refl, sym, ap, ◌∙◌}
 use mathlib.Core.Bool.{true, not}
-use mathlib.Core.List.{List, [], ◌∷◌, ◌++◌}
+use mathlib.Core.List.{List, [], ◌++◌}
 use native.Mathlib.Omega.{arith}
+use Rattle.std.proofs.Common.{Ok, Err}
 use lib.ListN.{length, length-append}
-use lib.Seq.{get_or_at, take_at}
-use borrow.Author.Tests.{not-false}
-use Rattle.text.specs.Text.{feed}
-use Rattle.sheet.specs.Ruling.{Ruling, passed, refused}
+use lib.Seq.{length-take-le, get_or_at, take_at}
+use borrow.Author.Tests.{le-ltb, ltb-false, not-false}
+use Rattle.finite.proofs.ListLaws.{write_length}
+use Rattle.text.specs.Text.{feed, Holds, Appends, Puts, Prints}
+use Rattle.text.proofs.LentLaws.{holds_text, is_word, prints}
+use Rattle.sheet.specs.Ruling.{Ruling, passed, refused, number_of, place_of, ◌then◌}
 use Rattle.sheet.specs.Bytes.{byte}
 use Rattle.sheet.specs.Form.{form, Formed}
-use Rattle.sheet.proofs.RulingLaws.{rule-passed}
+use Rattle.sheet.specs.declared.Refusal.{Refusal}
+use Rattle.sheet.proofs.RulingLaws.{rule-passed, then_passed}
 use Rattle.sheet.proofs.FormLaws.{form_iff}
 use Rattle.words.specs.Words.{refused_line}
 use Rattle.listing.specs.Listing.{listing, max_text}
 use Rattle.listing.specs.Telling.{sheet_told}
-use Rattle.listing.specs.Answers.{is_bytes, is_listing, text_rule}
+use Rattle.listing.specs.Answers.{is_bytes, is_listing, text_rule, Answers, room_rule}
 use Rattle.listing.proofs.LengthLaws.{argument_small, listing_length_by}
 use Rattle.listing.proofs.ListsLaws.{lists_iff, formed-length}
 use Rattle.listing.proofs.Listings.{told_exactly}
-use Rattle.exchange.specs.Exchange.{printed_by, sheetlist, text_in, sheetread}
+use Rattle.listing.proofs.AnswerLaws.{listed_refused, listed_length}
+use Rattle.exchange.specs.Exchange.{printed_by, sheetlist, text_in, sheetread, max_printed}
 
 -- what is printed of a result, and of a refusal
 
@@ -31,6 +37,41 @@ printed_result rules result e = rw (← e)
 pub printed_refusal : (rules : Ruling) (result : List ℕ) (number place : ℕ) → refused number place ≡ rules → printed_by rules result ≡ refused_line number place
 unfolding printed_by
 printed_refusal rules result number place e = rw (← e)
+
+-- where the last rules pass if the first do, a refusal is that of the first
+first_refuses : (first last : Ruling) (number place : ℕ) → (first ≡ passed → last ≡ passed) → first then last ≡ refused number place → first ≡ refused number place
+unfolding ◌then◌
+first_refuses passed last number place passes e = sym (passes refl) ∙ e
+first_refuses (refused n p) last number place passes e = e
+
+module _ {first : Ruling} {result before between : List ℕ} (short : first ≡ passed → length result ≤ max_text) where
+  pub prints_refusal : {q : Refusal} → Answers (first then room_rule (length before) result) result before between (Err q) → {after : List ℕ} {r : ℕ} →
+      Puts 33 (refused_line (number_of q) (place_of q)) between after 0 r → (text : List ℕ) → Prints max_printed (λ t. t ≡ printed_by first text) before after r
+  unfolding room_rule
+  prints_refusal k p text =
+      let told = listed_refused k in
+      let put = rw told.1 at p in
+      prints put max_printed (λ t. t ≡ printed_by first text)
+      (λ room. let own = first_refuses first _ _ _ (λ f. (rule-passed _ _ _).1 (le-ltb (length before) (length result) (omega (arith, short f)))) told.0 in
+      is_word put max_printed (omega arith) room ∙ sym (printed_refusal first text _ _ (sym own)))
+
+  -- a result with a word after it
+  pub prints_result : {n : ℕ} → Answers (first then room_rule (length before) result) result before between (Ok n) → {word after : List ℕ} {r : ℕ} →
+      Appends word between after n r → length word ≤ 1 → Prints max_printed (λ t. t ≡ printed_by first (result ++ word)) before after r
+  unfolding room_rule
+  prints_result {n} k {word} {after} {r} p l =
+      let told = listed_length k in
+      let all = (then_passed first _).0 told.0 in
+      let holds : Holds result before between n = told.2 in
+      let fits : length result ≤ length before = ltb-false _ _ ((rule-passed _ _ _).0 all.1) in
+      let size : length between ≡ length before = ap length holds.contents ∙ write_length result before (length result) refl fits in
+      let inside : r ≤ length after = omega (arith, p.inside (omega (arith, holds.count)), p.same_length) in
+      record {
+        same_length = p.same_length ∙ size;
+        inside = inside;
+        counted = sym (length-take-le r after inside);
+        text = λ room. holds_text (p.more holds (omega (arith, short all.0))) ∙ sym (printed_result first _ (sym all.0));
+      }
 
 -- a listing has room
 pub listing-short : (s : List ℕ) → ((at : ℕ) → byte s at < 256) → form s ≡ passed → length (listing s) ≤ max_text

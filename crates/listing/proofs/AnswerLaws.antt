@@ -1,7 +1,8 @@
 -- What an answer of the writer or the reader tells; and two results that their contracts allow are one and the same, the answer and the end
 -- contents of the lent room.
-use Rattle.std.proofs.Common.{◌≡◌, ℕ, List, ◌++◌, Result, Ok, Err, length, take, drop, refl, sym, ◌∙◌}
+use Rattle.std.proofs.Common.{◌≡◌, ℕ, List, Result, Ok, Err, length, take, refl, sym, ◌∙◌}
 use lib.Seq.{take_at}
+use Rattle.text.specs.Text.{Holds}
 use Rattle.sheet.specs.Ruling.{Ruling, passed, refused, at_end, number_of, place_of}
 use Rattle.sheet.specs.declared.Refusal.{Refusal}
 use Rattle.sheet.proofs.RulingLaws.{answer-accepted, answer-turned, one_said}
@@ -20,11 +21,9 @@ module _ {rules : Ruling} {result before after : List ℕ} where
       (turned_by, k.room ∙ rw turned_by refl)
 
   -- a length is the result's, which the room begins with; after it the room is as it was
-  pub listed_length : {n : ℕ} → Answers rules result before after (Ok n)
-      → (rules ≡ passed) × (take n after ≡ result) × (after ≡ result ++ drop (length result) before) × (n ≡ length result)
+  pub listed_length : {n : ℕ} → Answers rules result before after (Ok n) → (rules ≡ passed) × (take n after ≡ result) × Holds result before after n
   unfolding at_end
   listed_length {n} k =
       let by = (answer-accepted rules (length result) n).0 (sym k.answers) in
       let all : rules ≡ passed = by.0 in
-      let contents : after ≡ result ++ drop (length result) before = k.room ∙ rw all refl in
-      (all, rw contents (take_at result _ n by.1), contents, sym by.1)
+      (all, rw (k.room, all) (take_at result _ n by.1), record { contents = k.room ∙ rw all refl; count = sym by.1 })

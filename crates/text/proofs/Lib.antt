@@ -1,3 +1,4 @@
--- The laws of appending and of numbers in decimal, and numbers in decimal computed.
+-- The laws of appending, by itself and in a lent buffer, and of numbers in decimal, and numbers in decimal computed.
 pub mod TextLaws
+pub mod LentLaws
 mod Examples

@@ -95,6 +95,13 @@ unfolding integer
 integer-length (pos n) f = omega (arith, decimal-length 9 n (omega arith))
 integer-length (negsuc n) f = omega (arith, decimal-length 9 (suc n) (omega arith))
 
+-- the room that a number of 64 bits takes, and one of 32 bits with a sign
+pub decimal_room : (n : ℕ) → n < 18446744073709551616 → length (decimal n) ≤ 20
+decimal_room n l = decimal-length 19 n (omega arith)
+
+pub integer_room : (v : ℤ) → SFits w32 v → length (integer v) ≤ 11
+integer_room v f = integer-length v f
+
 -- ---- numbers read
 
 -- as the code computes it

@@ -1,4 +1,5 @@
--- Text as lists of ASCII codes: numbers in decimal, what it is to append a word to a text, to copy a text into a lent buffer, and to print it.
+-- Text as lists of ASCII codes: numbers in decimal, what it is to append a word to a text, by itself or in a lent buffer, to copy a text
+-- into a lent buffer, and to print it.
 use Rattle.std.specs.Prelude.{ℕ, zero, suc, ◌+◌, ◌*◌, ◌/◌, ◌%◌, ◌≤◌, ◌≡◌, cond, List, [], ◌∷◌, ◌++◌, ltb, ℤ, pos, negsuc, length, min, take, drop}
 
 -- one space, and a line feed
@@ -34,6 +35,23 @@ digits word = digits_after 0 word
 -- from `before` to `after` a word is appended, if there is room for it
 pub record Adds (room : ℕ) (word before after : List ℕ) : Type 0 where
   pub appended : length before + length word ≤ room → after ≡ before ++ word
+
+-- the buffer `out` holds a text, of which `at` is the length, and after it what was there of old
+pub record Holds (text old out : List ℕ) (at : ℕ) : Type 0 where
+  pub contents : out ≡ text ++ drop (length text) old
+  pub count : at ≡ length text
+
+-- from `before` to `after` a word is appended to whatever text the buffer holds, if there is room, and r is the new text's length.
+-- In any case the buffer keeps its length, and a place inside it stays inside.
+pub record Appends (word before after : List ℕ) (at r : ℕ) : Type 0 where
+  pub same_length : length after ≡ length before
+  pub inside : at ≤ length before → r ≤ length before
+  pub more : {text old : List ℕ} → Holds text old before at → length text + length word ≤ length old → Holds (text ++ word) old after r
+
+-- a word of at most so many bytes is appended
+pub record Puts (most : ℕ) (word before after : List ℕ) (at r : ℕ) : Type 0 where
+  pub appends : Appends word before after at r
+  pub short : length word ≤ most
 
 -- the buffer's first r bytes are as many of the text's as there is room for. The others are what was there of old
 pub record Copied (text before after : List ℕ) (r : ℕ) : Type 0 where

@@ -1,9 +1,11 @@
-// Text: words and decimal numbers, appended to a text of a fixed room, copied into a lent buffer, and read. Where a word has no room, the text
-// is left open. By hand and not by write!: a write! can fail, and these can't.
+// Text: words and decimal numbers, appended to a text of a fixed room, or to the text in a lent buffer, copied into a lent buffer, and read.
+// Where a word has no room, the text is left open. By hand and not by write!: a write! can fail, and these can't.
 #![tactic(auto)]
 
 ghost use Rattle.std.specs.Prelude.{◌≡◌};
 ghost use Rattle.text.specs.Text.{decimal, integer, digits, Adds, Copied};
+
+pub mod lent;
 
 use arrayvec::ArrayVec;
 

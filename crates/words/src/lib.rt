@@ -6,6 +6,8 @@ ghost use Rattle.text.specs.Text.{Adds};
 ghost use Rattle.sheet.specs.Ruling.{number_of, place_of};
 ghost use Rattle.words.specs.Words.{type_word, refused_line};
 
+pub mod lent;
+
 use arrayvec::ArrayVec;
 use sheet::{Refusal, ValueType};
 
