@@ -7,6 +7,8 @@ ghost use Rattle.sheet.specs.Ceilings.{max_sheet};
 ghost use Rattle.listing.specs.Listing.{operator_name, name, max_text};
 ghost use Rattle.listing.specs.Answers.{room_rule, Answers};
 
+pub mod lent;
+
 use number::Operator;
 use sheet::{Kind, Lent, Refusal, Sheet};
 
