@@ -204,11 +204,12 @@ fn types(text: &[u8]) -> (ArrayVec<u8, TYPES>, &[u8])
     (types, left)
 }
 
-// The records that the words of a text tell; None where no sheet has so many.
-fn records(text: &[u8]) -> Option<ArrayVec<u8, RECORDS>>
-    ensures { MatchOption result (6 * max_nodes < length (telling.records_told false (telling.words text.now))) (λ records. records.items ≡ telling.records_told false (telling.words text.now)) }
+// The records that the words of a text tell; None where no sheet has so many. These and the sheet are put into room that is lent, since what is
+// handed on by value is copied at each hand.
+fn put_records(text: &[u8], records: &mut ArrayVec<u8, RECORDS>) -> Option<()>
+    requires { records.old.items ≡ [] }
+    ensures { MatchOption result (6 * max_nodes < length (telling.records_told false (telling.words text.now))) (λ _. records.new.items ≡ telling.records_told false (telling.words text.now)) }
 {
-    let mut records = ArrayVec::new();
     let mut left = text;
     while let Some((word, rest)) = next_word(left) {
         let (next, after) = word_and_rest(rest);
@@ -217,46 +218,60 @@ fn records(text: &[u8]) -> Option<ArrayVec<u8, RECORDS>>
             .ok()?;
         left = if takes_next(word) { after } else { rest };
     }
-    Some(records)
+    Some(())
 }
 
 // A sheet of these type bytes and records.
-fn headed(types: &[u8], records: &[u8]) -> ArrayVec<u8, SHEET>
-    requires { (length types.now ≤ max_columns) × (length records.now ≤ 6 * max_nodes) }
-    ensures { result.items ≡ telling.headed types.now records.now }
+fn put_headed(s: &mut ArrayVec<u8, SHEET>, types: &[u8], records: &[u8])
+    requires few { (length types.now ≤ max_columns) × (length records.now ≤ 6 * max_nodes) }
+    requires empty { s.old.items ≡ [] }
+    ensures { s.new.items ≡ telling.headed types.now records.now }
 {
     let [high, low] = ((4 + types.len() + records.len()) as u16).to_be_bytes();
-    let mut s = ArrayVec::new();
-    text::put(&mut s, &[high, low, 1, types.len() as u8]);
-    text::put(&mut s, types);
-    text::put(&mut s, records);
-    s
+    text::put(s, &[high, low, 1, types.len() as u8]);
+    text::put(s, types);
+    text::put(s, records);
 }
 
 // The sheet that a text tells; None where it has more records than a sheet, and so is no listing.
-fn tell(text: &[u8]) -> Option<ArrayVec<u8, SHEET>>
-    ensures { MatchOption result (is_listing text.now ≡ false) (λ s. s.items ≡ telling.sheet_told text.now) }
+fn tell(text: &[u8], s: &mut ArrayVec<u8, SHEET>) -> Option<()>
+    requires { s.old.items ≡ [] }
+    ensures { MatchOption result (is_listing text.now ≡ false) (λ _. s.new.items ≡ telling.sheet_told text.now) }
 {
     let (types, left) = types(text);
-    let records = records(left)?;
-    Some(headed(types.as_slice(), records.as_slice()))
+    let mut records = ArrayVec::new();
+    put_records(left, &mut records)?;
+    put_headed(s, types.as_slice(), records.as_slice());
+    Some(())
 }
 
 // The sheet that a listing tells, or the refusal of a text that is none.
 #[tactic(auto, unfolding(listing::specs::Answers::text_rule, listing::specs::Answers::is_listing, sheet::specs::Ruling::rule))]
+fn put_sheet(text: &[u8], s: &mut ArrayVec<u8, SHEET>) -> Result<(), Refusal>
+    requires { s.old.items ≡ [] }
+    ensures rule { told result ≡ text_rule text.now }
+    ensures bytes { IfOk result (λ _. s.new.items ≡ telling.sheet_told text.now) }
+{
+    tell(text, s)
+        .filter(|_| writer::lists(s.as_slice(), text))
+        .ok_or(Refusal::Text)
+}
+
+// The same by itself.
 pub fn sheet(text: &[u8]) -> Result<ArrayVec<u8, SHEET>, Refusal>
     ensures rule { told result ≡ text_rule text.now }
     ensures bytes { IfOk result (λ s. s.items ≡ telling.sheet_told text.now) }
 {
-    tell(text)
-        .filter(|s| writer::lists(s.as_slice(), text))
-        .ok_or(Refusal::Text)
+    let mut s = ArrayVec::new();
+    put_sheet(text, &mut s)?;
+    Ok(s)
 }
 
 // The reader. Into a lent room: an operation, whose clause may not change.
 pub fn read(text: &[u8], room: &mut [u8]) -> Result<usize, Refusal>
     ensures { Answers (reader_rules text.now (length room.old)) (telling.sheet_told text.now) room.old room.new result }
 {
-    let s = sheet(text)?;
+    let mut s = ArrayVec::new();
+    put_sheet(text, &mut s)?;
     listing::answer(s.as_slice(), room)
 }

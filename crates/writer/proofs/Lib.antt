@@ -1,3 +1,3 @@
--- Laws of the table of closings, and of what the writer answers.
+-- Laws of the table of closings, and of what the writer makes and answers.
 pub mod ClosingLaws
 pub mod WriterLaws

@@ -147,31 +147,49 @@ fn put_columns<const N: usize>(out: &mut ArrayVec<u8, N>, s: &[u8])
     }
 }
 
-// The listing of a sheet that passes rules 1 to 6, or the refusal.
+// The listing of a sheet that passes rules 1 to 6.
+#[tactic(auto, using(text::proofs::TextLaws::append_then), unfolding(listing::specs::Listing::listing))]
+fn put_listing<const N: usize>(out: &mut ArrayVec<u8, N>, s: &[u8])
+    requires { Formed s.now }
+    ensures { Adds N (text.listing s.now) out.old.items out.new.items }
+{
+    text::put(out, b"sheet");
+    put_columns(out, s);
+    put_nodes(out, s);
+}
+
+// The same by itself, or the refusal.
 pub fn listing(s: &[u8]) -> Result<ArrayVec<u8, TEXT>, Refusal>
     ensures form { told result ≡ form s.now }
     ensures text { IfOk result (λ out. out.items ≡ text.listing s.now) }
 {
     sheet::form(s)?;
     let mut out = ArrayVec::new();
-    text::put(&mut out, b"sheet");
-    put_columns(&mut out, s);
-    put_nodes(&mut out, s);
+    put_listing(&mut out, s);
     Ok(out)
 }
+
+// The writer and its test make the listing in place: handed on by value it would be copied at each hand.
 
 // Whether a text is the listing of a sheet that passes rules 1 to 6.
 #[tactic(auto, unfolding(listing::specs::Answers::lists, sheet::specs::Ruling::passes))]
 pub fn lists(s: &[u8], text: &[u8]) -> bool
     ensures { result ≡ lists s.now text.now }
 {
-    listing(s).is_ok_and(|own| own.as_slice() == text)
+    let Ok(()) = sheet::form(s) else {
+        return false;
+    };
+    let mut own: ArrayVec<u8, TEXT> = ArrayVec::new();
+    put_listing(&mut own, s);
+    own.as_slice() == text
 }
 
 // The writer. Into a lent room: an operation, whose clause may not change.
 pub fn write(s: &[u8], room: &mut [u8]) -> Result<usize, Refusal>
     ensures { Answers (writer_rules s.now (length room.old)) (text.listing s.now) room.old room.new result }
 {
-    let own = listing(s)?;
+    sheet::form(s)?;
+    let mut own: ArrayVec<u8, TEXT> = ArrayVec::new();
+    put_listing(&mut own, s);
     listing::answer(own.as_slice(), room)
 }

@@ -1,17 +1,12 @@
--- `sheet`, the columns and the nodes, in room for any listing.
+-- The listing, in room for any.
 use Rattle.std.proofs.Common.{sym, arith}
 use Rattle.sheet.proofs.FormLaws.{form_iff}
-use Rattle.text.proofs.TextLaws.{append_then, append_first}
-use Rattle.listing.specs.Listing.{listing}
-use Rattle.listing.proofs.LengthLaws.{argument_small, listing_length_by}
+use Rattle.writer.proofs.WriterLaws.{own_listing}
 use Rattle.writer.proofs.listing.Goals as goal
 
-pub put_nodes-requires : goal.put_nodes-requires
-put_nodes-requires c = (omega arith, (form_iff _).0 (sym c.in_ok-form.ensures))
+pub put_listing-requires : goal.put_listing-requires
+put_listing-requires c = (omega arith, (form_iff _).0 (sym c.in_ok-form.ensures))
 
 pub returns-clause-text : goal.returns-clause-text
-unfolding listing
 returns-clause-text c =
-    let s = c.args.s.now in
-    let short = listing_length_by s (λ i l. argument_small s (λ at. omega (arith, c.type_inv.s at)) i) ((form_iff s).0 (sym c.in_ok-form.ensures)) in
-    append_first c.new-out.ensures (append_then c.put.ensures (append_then c.put_columns.ensures c.put_nodes.ensures)) short
+    own_listing (λ at. omega (arith, c.type_inv.s at)) ((form_iff _).0 (sym c.in_ok-form.ensures)) c.new-out.ensures c.put_listing.ensures

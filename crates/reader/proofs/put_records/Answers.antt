@@ -3,10 +3,10 @@ use Rattle.std.proofs.Common.{◌≡◌, ◌+◌, ◌<◌, ◌++◌, length, ref
 use Rattle.listing.specs.Telling.{records_told}
 use Rattle.reader.specs.Reading.{FirstWord}
 use Rattle.reader.proofs.LoopLaws.{turn_on, turn_past, turn_over}
-use Rattle.reader.proofs.records.Goals as goal
+use Rattle.reader.proofs.put_records.Goals as goal
 
 pub loop-word-init : goal.loop-word-init
-loop-word-init c = record { told = rw c.new-records.ensures refl }
+loop-word-init c = record { told = rw c.requires refl }
 
 pub returns-in_err-ok : goal.returns-in_err-ok
 returns-in_err-ok c =

@@ -3,7 +3,7 @@ use Rattle.std.proofs.Common.{◌≡◌, suc, ◌+◌, ◌/◌, ◌%◌, ◌≤�
 use Rattle.sheet.specs.Ceilings.{max_sheet}
 use Rattle.text.proofs.TextLaws.{append_then, append_first}
 use Rattle.listing.specs.Telling.{headed}
-use Rattle.reader.proofs.headed.Goals as goal
+use Rattle.reader.proofs.put_headed.Goals as goal
 
 pub returns : goal.returns
 unfolding headed
@@ -12,5 +12,5 @@ returns c =
     let records = c.args.records.now in
     let high : get_or c.to_be_bytes.result 0 0 ≡ (4 + length types + length records) / 256 = search rules in
     let low : get_or c.to_be_bytes.result 1 0 ≡ (4 + length types + length records) % 256 = search rules in
-    let fits : suc (suc (suc (suc (length (types ++ records))))) ≤ max_sheet = omega (arith, c.requires, length-append types records) in
-    rw (← high, ← low) (append_first c.new-s.ensures (append_then c.put.ensures (append_then c.put-2.ensures c.put-3.ensures)) fits)
+    let fits : suc (suc (suc (suc (length (types ++ records))))) ≤ max_sheet = omega (arith, c.requires.few, length-append types records) in
+    rw (← high, ← low) (append_first c.requires.empty (append_then c.put.ensures (append_then c.put-2.ensures c.put-3.ensures)) fits)
