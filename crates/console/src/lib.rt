@@ -1,7 +1,7 @@
 // What sheetrun prints: from the bytes of standard input to the bytes of standard output, over the public operations alone.
 #![tactic(auto)]
 
-ghost use Rattle.std.specs.Prelude.{◌≡◌, ℕ, ◌*◌, ◌/◌, ◌+◌, ◌<◌, ◌≤◌, true, ℤ, length, IfOk};
+ghost use Rattle.std.specs.Prelude.{◌≡◌, [], ℕ, ◌*◌, ◌/◌, ◌+◌, ◌<◌, ◌≤◌, true, ℤ, length, IfOk};
 ghost use Rattle.text.specs.Text.{Adds, Prints};
 ghost use Rattle.sheet.specs.Ceilings.{max_nodes, max_columns, max_slots};
 ghost use Rattle.sheet.specs.Ruling.{passed, passes, told, number_of, place_of};
@@ -212,45 +212,49 @@ impl<'a> Accepted<'a> {
         }
     }
 
-    // The text of rows that a run accepts: the first line, and the ticks.
-    fn run_text(self, rows: &[i32], ticks: usize) -> Text
-        requires { run_rules self.s.now rows.now ticks ≡ passed }
-        ensures { printed.PrintedBy passed self.entry.s.now rows.now ticks result.items }
+    // The text of rows that a run accepts: the first line, and the ticks. It is put into room that is lent from here on, since what is handed on by
+    // value is copied at each hand.
+    fn put_run(self, rows: &[i32], ticks: usize, text: &mut Text)
+        requires ticks_value { run_rules self.s.now rows.now ticks ≡ passed }
+        requires empty { text.old.items ≡ [] }
+        ensures { printed.PrintedBy passed self.entry.s.now rows.now ticks text.new.items }
     {
-        let mut text = ArrayVec::new();
-        put_ok(&mut text, self.sheet);
-        self.put_ticks(rows, ticks, &mut text);
-        text
+        put_ok(text, self.sheet);
+        self.put_ticks(rows, ticks, text);
     }
 
     // The text of whole rows, not too many, or the refusal: rule 13 is left.
-    fn rows_text(self, rows: &[i32], ticks: usize) -> Result<Text, Refusal>
-        requires { (length rows.now ≡ ticks * bytes.columns self.s.now) × (ticks ≤ max_rows) }
+    fn put_rows(self, rows: &[i32], ticks: usize, text: &mut Text) -> Result<(), Refusal>
+        requires rows_len { (length rows.now ≡ ticks * bytes.columns self.s.now) × (ticks ≤ max_rows) }
+        requires empty { text.old.items ≡ [] }
         ensures rules { told result ≡ row_rule self.entry.s.now rows.now }
-        ensures text { IfOk result (λ text. printed.PrintedBy passed self.entry.s.now rows.now ticks text.items) }
+        ensures text { IfOk result (λ _. printed.PrintedBy passed self.entry.s.now rows.now ticks text.new.items) }
     {
         let mut outputs = [0i32; RunState::ROWS];
         engine::run(self.s, rows, &mut outputs[..ticks])?;
-        Ok(self.run_text(rows, ticks))
+        self.put_run(rows, ticks, text);
+        Ok(())
     }
 
     // The same of the bytes of the rows.
-    fn ints_text(self, rest: &[u8], ticks: usize) -> Result<Text, Refusal>
-        requires { (length rest.now / 4 ≡ ticks * bytes.columns self.s.now) × (ticks ≤ max_rows) × (length rest.now / 4 ≤ max_ints) }
+    fn put_ints(self, rest: &[u8], ticks: usize, text: &mut Text) -> Result<(), Refusal>
+        requires rest_len { (length rest.now / 4 ≡ ticks * bytes.columns self.s.now) × (ticks ≤ max_rows) × (length rest.now / 4 ≤ max_ints) }
+        requires empty { text.old.items ≡ [] }
         ensures rules { told result ≡ row_rule self.entry.s.now (printed.ints rest.now) }
-        ensures text { IfOk result (λ text. printed.PrintedBy passed self.entry.s.now (printed.ints rest.now) ticks text.items) }
+        ensures text { IfOk result (λ _. printed.PrintedBy passed self.entry.s.now (printed.ints rest.now) ticks text.new.items) }
     {
         let n = rest.len() / 4;
         let mut ints = Input::ints();
         read_ints(rest, &mut ints[..n]);
-        self.rows_text(&ints[..n], ticks)
+        self.put_rows(&ints[..n], ticks, text)
     }
 
     // The text of the bytes after the sheet, or the refusal.
     #[tactic(auto, using(crate::proofs::InputLaws::rest_broken, crate::proofs::InputLaws::rest_many, crate::proofs::InputLaws::rest_rows))]
-    fn rest_text(self, rest: &[u8]) -> Result<Text, Refusal>
+    fn put_rest(self, rest: &[u8], text: &mut Text) -> Result<(), Refusal>
+        requires { text.old.items ≡ [] }
         ensures rules { told result ≡ printed.rest_rules self.entry.s.now rest.now }
-        ensures text { IfOk result (λ text. printed.PrintedBy passed self.entry.s.now (printed.ints rest.now) (printed.ticks_by (bytes.columns self.entry.s.now) (length rest.now)) text.items) }
+        ensures text { IfOk result (λ _. printed.PrintedBy passed self.entry.s.now (printed.ints rest.now) (printed.ticks_by (bytes.columns self.entry.s.now) (length rest.now)) text.new.items) }
     {
         let columns = self.sheet.columns;
         if broken_rows(columns, rest.len()) {
@@ -260,15 +264,16 @@ impl<'a> Accepted<'a> {
         if RunState::ROWS < ticks {
             return Err(Refusal::Lent(Lent::Outputs));
         }
-        self.ints_text(rest, ticks)
+        self.put_ints(rest, ticks, text)
     }
 }
 
 // All that is printed of an input that no rule refuses, or the refusal.
 #[tactic(auto, using(crate::proofs::InputLaws::input_over, crate::proofs::InputLaws::input_refused, crate::proofs::InputLaws::input_rest))]
-fn accepted_text(input: &[u8]) -> Result<Text, Refusal>
+fn put_accepted(input: &[u8], text: &mut Text) -> Result<(), Refusal>
+    requires { text.old.items ≡ [] }
     ensures rules { told result ≡ printed.input_rules input.now }
-    ensures text { IfOk result (λ text. printed.PrintedBy passed (printed.sheet_in input.now) (printed.rows_in input.now) (printed.ticks input.now) text.items) }
+    ensures text { IfOk result (λ _. printed.PrintedBy passed (printed.sheet_in input.now) (printed.rows_in input.now) (printed.ticks input.now) text.new.items) }
 {
     if Input::BYTES < input.len() {
         return Err(Refusal::Length);
@@ -276,7 +281,7 @@ fn accepted_text(input: &[u8]) -> Result<Text, Refusal>
     let (s, rest) = cut(input);
     let sheet = rules::check(s)?;
     let accepted = Accepted { s, sheet };
-    accepted.rest_text(rest)
+    accepted.put_rest(rest, text)
 }
 
 // All that sheetrun prints of an input, at the start of `out`; what is returned is its length. Into a lent slice, as it was: what callers lend
@@ -284,6 +289,9 @@ fn accepted_text(input: &[u8]) -> Result<Text, Refusal>
 pub fn sheetrun(input: &[u8], out: &mut [u8]) -> usize
     ensures { Prints printed.max_output (printed.Printed input.now) out.old out.new result }
 {
-    let text = accepted_text(input).unwrap_or_else(words::refusal);
-    text::copy_out(text.as_slice(), out)
+    let mut text = ArrayVec::new();
+    match put_accepted(input, &mut text) {
+        Ok(()) => text::copy_out(text.as_slice(), out),
+        Err(r) => words::lent::put_refusal(out, 0, r),
+    }
 }

@@ -4,7 +4,7 @@ use Rattle.sheet.specs.Ruling.{passes}
 use Rattle.rules.specs.Check.{sheet}
 use Rattle.rules.proofs.CheckLaws.{rules_exactly, check_exactly}
 use Rattle.console.specs.Sheetrun.{rows_in, ticks}
-use Rattle.console.proofs.accepted_text.Goals as goal
+use Rattle.console.proofs.put_accepted.Goals as goal
 
 pub invariant_of-accepted : goal.invariant_of-accepted
 unfolding passes sheet
@@ -21,4 +21,4 @@ invariant_of-accepted c =
 
 pub returns-clause-text : goal.returns-clause-text
 unfolding rows_in ticks
-returns-clause-text c = rw (← c.cut.ensures.sheet, ← c.cut.ensures.rest) c.rest_text.ensures.text
+returns-clause-text c = rw (← c.cut.ensures.sheet, ← c.cut.ensures.rest) c.put_rest.ensures.text

@@ -3,10 +3,10 @@ use Rattle.std.proofs.Common.{ℕ, length, ap, ◌∙◌}
 use Rattle.console.specs.Sheetrun.{ticks_by}
 use Rattle.console.proofs.AcceptedLaws.{columns_are}
 use Rattle.console.proofs.InputLaws.{rest_whole, rest_fits}
-use Rattle.console.proofs.Accepted.rest_text.Goals as goal
+use Rattle.console.proofs.Accepted.put_rest.Goals as goal
 
-pub ints_text-requires : goal.ints_text-requires
-ints_text-requires c =
+pub put_ints-requires-clause-rest_len : goal.put_ints-requires-clause-rest_len
+put_ints-requires-clause-rest_len c =
     let a = c.args.self in
     let h = c.broken_rows.ensures in
     let l = c.if-ticks-gt-ROWS.false in
@@ -14,4 +14,4 @@ ints_text-requires c =
 
 pub returns-clause-text : goal.returns-clause-text
 returns-clause-text c =
-    rw (c.ticks_in-ticks.ensures ∙ ap (λ (n : ℕ). ticks_by n (length c.args.rest.now)) (columns_are c.args.self)) at c.ints_text.ensures.text
+    rw (c.ticks_in-ticks.ensures ∙ ap (λ (n : ℕ). ticks_by n (length c.args.rest.now)) (columns_are c.args.self)) at c.put_ints.ensures.text
