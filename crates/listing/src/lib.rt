@@ -71,5 +71,5 @@ pub fn answer(whole: &[u8], room: &mut [u8]) -> Result<usize, Refusal>
     if room.len() < whole.len() {
         return Err(Refusal::Lent(Lent::Room));
     }
-    Ok(text::copy_out(whole, room))
+    Ok(text::lent::put(room, 0, whole))
 }

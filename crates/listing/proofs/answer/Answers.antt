@@ -1,6 +1,6 @@
--- A result has no room, or it is copied.
-use Rattle.std.proofs.Common.{◌≡◌, length, arith, lt-ltb, le-ltb}
-use Rattle.std.proofs.Math.Seq.{take_all}
+-- A result has no room, or it is put at the start.
+use Rattle.std.proofs.Common.{length, arith, lt-ltb, le-ltb}
+use Rattle.text.proofs.LentLaws.{holds_none}
 use Rattle.sheet.specs.Ruling.{rule, answer, at_end}
 use Rattle.listing.specs.Answers.{room_rule}
 use Rattle.listing.proofs.answer.Goals as goal
@@ -12,10 +12,6 @@ returns-then-room-whole c = let short = lt-ltb _ _ c.if-room-whole.true in recor
 pub returns : goal.returns
 unfolding room_rule rule answer at_end
 returns c =
-    let whole = c.args.whole.now in
     let fits = le-ltb _ _ c.if-room-whole.false in
-    let all : c.copy_out.result ≡ length whole = omega (arith, c.copy_out.ensures.count) in
-    record {
-      answers = rw (fits, all);
-      room = rw (fits, c.copy_out.ensures.contents, all, take_all (length whole) whole (omega arith));
-    }
+    let put = c.put.ensures.more (holds_none c.args.room.now) (omega arith) in
+    record { answers = rw (fits, put.count); room = rw (fits, put.contents) }
